@@ -6,6 +6,7 @@ use Rattle.std.proofs.lemmas.Slice.Eq.{bytes_eq-Decides}
 use Rattle.cj_epoch.specs.declared.fault.EpochFault.TheVariants as epoch
 use Rattle.cj_kvn.specs.declared.lines.KvnCause.TheVariants as kvn
 use Rattle.cj_formats.specs.declared.oem_cause.OemCause.TheVariants as oem
+use Rattle.cj_formats.specs.declared.primaries_cause.PrimariesCause.TheVariants as primaries
 use Rattle.cj_formats.specs.declared.sizes_cause.SizesCause.TheVariants as sizes
 use Rattle.cj_formats.specs.declared.cert_cause.CertCause.TheVariants as certs
 use Rattle.cj_formats.specs.declared.check_cause.CheckCause.TheVariants as checks
@@ -56,6 +57,12 @@ each_found (File (files.Sizes sizes.Number)) = refl
 each_found (File (files.Sizes sizes.Range)) = refl
 each_found (File (files.Sizes sizes.Twice)) = refl
 each_found (File files.NoSizes) = refl
+each_found (File (files.Primaries (primaries.Kvn kvn.NotPrintable))) = refl
+each_found (File (files.Primaries (primaries.Kvn kvn.NoLineForm))) = refl
+each_found (File (files.Primaries primaries.Form)) = refl
+each_found (File (files.Primaries primaries.Twice)) = refl
+each_found (File (files.Primaries primaries.Unknown)) = refl
+each_found (File files.NoPrimaries) = refl
 each_found (File files.Uncovered) = refl
 each_found (Certificate refusals.NoFile) = refl
 each_found (Certificate (refusals.Text certs.Form)) = refl
@@ -63,6 +70,7 @@ each_found (Certificate (refusals.Text certs.Range)) = refl
 each_found (Certificate (refusals.Text certs.End)) = refl
 each_found (Certificate (refusals.Refused checks.Header)) = refl
 each_found (Certificate (refusals.Refused checks.SizeOf)) = refl
+each_found (Certificate (refusals.Refused checks.PrimaryOf)) = refl
 each_found (Certificate (refusals.Refused checks.ShellOf)) = refl
 each_found (Certificate (refusals.Refused checks.BoxOf)) = refl
 each_found (Certificate (refusals.Refused checks.Untiled)) = refl

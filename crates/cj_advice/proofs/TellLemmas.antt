@@ -18,6 +18,8 @@ reason_words (refused.Oem cause) = refl
 reason_words refused.MixedFrames = refl
 reason_words (refused.Sizes cause) = refl
 reason_words refused.NoSizes = refl
+reason_words (refused.Primaries cause) = refl
+reason_words refused.NoPrimaries = refl
 reason_words (refused.Uncovered micros) = refl
 
 told_file : (file : List ℕ) (line : ℕ) (cause : FileCause) → Tells (File (file_reason cause)) (status.BadFile file line cause)

@@ -5,13 +5,14 @@ use Rattle.std.specs.Str.{bytes_eq}
 use Rattle.cj_epoch.specs.declared.fault.EpochFault.TheVariants as epoch
 use Rattle.cj_kvn.specs.declared.lines.KvnCause.TheVariants as kvn
 use Rattle.cj_formats.specs.declared.oem_cause.OemCause.TheVariants as oem
+use Rattle.cj_formats.specs.declared.primaries_cause.PrimariesCause.TheVariants as primaries
 use Rattle.cj_formats.specs.declared.sizes_cause.SizesCause.TheVariants as sizes
 use Rattle.cj_formats.specs.declared.cert_cause.CertCause.TheVariants as certs
 use Rattle.cj_formats.specs.declared.check_cause.CheckCause.TheVariants as checks
 use Rattle.cj_words.specs.declared.option.UsageFault.{UsageFault}
 use Rattle.cj_words.specs.declared.option.UsageFault.TheVariants as usage
 use Rattle.cj_words.specs.Options.{name_of}
-use Rattle.cj_status.specs.Faults.{cause_rest, certificate_text, line_of, oem_text, shown_name, sizes_text}
+use Rattle.cj_status.specs.Faults.{cause_rest, certificate_text, line_of, oem_text, primaries_text, shown_name, sizes_text}
 use Rattle.cj_status.specs.declared.status.CertificateCause.TheVariants as refusals
 use Rattle.cj_status.specs.declared.status.FileCause.{FileCause}
 use Rattle.cj_status.specs.declared.status.FileCause.TheVariants as refused
@@ -40,6 +41,8 @@ file_word (files.Oem cause) = oem_text cause
 file_word files.MixedFrames = codes "MixedFrames"
 file_word (files.Sizes cause) = codes "Sizes " ++ sizes_text cause
 file_word files.NoSizes = codes "NoSizes"
+file_word (files.Primaries cause) = codes "Primaries " ++ primaries_text cause
+file_word files.NoPrimaries = codes "NoPrimaries"
 file_word files.Uncovered = codes "Uncovered"
 
 -- the words of a cause, which are those of fault lines
@@ -69,6 +72,8 @@ file_reason (refused.Oem cause) = files.Oem cause
 file_reason refused.MixedFrames = files.MixedFrames
 file_reason (refused.Sizes cause) = files.Sizes cause
 file_reason refused.NoSizes = files.NoSizes
+file_reason (refused.Primaries cause) = files.Primaries cause
+file_reason refused.NoPrimaries = files.NoPrimaries
 file_reason (refused.Uncovered micros) = files.Uncovered
 
 abbrev pub usage_cause : UsageFault → Cause
@@ -164,6 +169,12 @@ every =
     ∷ File (files.Sizes sizes.Range)
     ∷ File (files.Sizes sizes.Twice)
     ∷ File files.NoSizes
+    ∷ File (files.Primaries (primaries.Kvn kvn.NotPrintable))
+    ∷ File (files.Primaries (primaries.Kvn kvn.NoLineForm))
+    ∷ File (files.Primaries primaries.Form)
+    ∷ File (files.Primaries primaries.Twice)
+    ∷ File (files.Primaries primaries.Unknown)
+    ∷ File files.NoPrimaries
     ∷ File files.Uncovered
     ∷ Certificate refusals.NoFile
     ∷ Certificate (refusals.Text certs.Form)
@@ -171,6 +182,7 @@ every =
     ∷ Certificate (refusals.Text certs.End)
     ∷ Certificate (refusals.Refused checks.Header)
     ∷ Certificate (refusals.Refused checks.SizeOf)
+    ∷ Certificate (refusals.Refused checks.PrimaryOf)
     ∷ Certificate (refusals.Refused checks.ShellOf)
     ∷ Certificate (refusals.Refused checks.BoxOf)
     ∷ Certificate (refusals.Refused checks.Untiled)

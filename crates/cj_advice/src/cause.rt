@@ -3,7 +3,7 @@ ghost use Rattle.std.specs.Prelude.{◌≡◌, IfSome};
 ghost use Rattle.cj_advice.specs.Causes as spec;
 ghost use Rattle.cj_advice.specs.Causes.{Tells};
 
-use cj_formats::{OemCause, SizesCause};
+use cj_formats::{OemCause, PrimariesCause, SizesCause};
 use cj_status::{
     CertificateCause, FileCause, LimitFault, Status, cause_name, certificate_cause_name,
 };
@@ -38,6 +38,10 @@ pub enum FileReason {
     Sizes(SizesCause),
     /// No file has the name that was given for the file of sizes.
     NoSizes,
+    /// It is not a file of primaries.
+    Primaries(PrimariesCause),
+    /// No file has the name that was given for the file of primaries.
+    NoPrimaries,
     /// Its object does not cover the window.
     Uncovered,
 }
@@ -78,6 +82,8 @@ fn file_word(reason: FileReason) -> &'static [u8]
         FileReason::MixedFrames => b"MixedFrames",
         FileReason::Sizes(cause) => cause_name(FileCause::Sizes(cause)),
         FileReason::NoSizes => b"NoSizes",
+        FileReason::Primaries(cause) => cause_name(FileCause::Primaries(cause)),
+        FileReason::NoPrimaries => b"NoPrimaries",
         FileReason::Uncovered => b"Uncovered",
     }
 }
@@ -137,6 +143,8 @@ pub fn file_reason(cause: FileCause) -> FileReason
         FileCause::MixedFrames => FileReason::MixedFrames,
         FileCause::Sizes(cause) => FileReason::Sizes(cause),
         FileCause::NoSizes => FileReason::NoSizes,
+        FileCause::Primaries(cause) => FileReason::Primaries(cause),
+        FileCause::NoPrimaries => FileReason::NoPrimaries,
         FileCause::Uncovered { .. } => FileReason::Uncovered,
     }
 }

@@ -25,6 +25,7 @@ fn advice_on_check(cause: CheckCause) -> Advice {
     match cause {
         CheckCause::Header => HEADER,
         CheckCause::SizeOf => SIZE_OF,
+        CheckCause::PrimaryOf => PRIMARY_OF,
         CheckCause::ShellOf => SHELL_OF,
         CheckCause::BoxOf => BOX_OF,
         CheckCause::Untiled => UNTILED,
@@ -107,6 +108,17 @@ SIZE.
 ",
     wrong: "SIZE 1 1500000000\n",
     right: "SIZE 1 0\n",
+};
+
+const PRIMARY_OF: Advice = Advice {
+    means: "the primaries are not those of the run",
+    helps: "give --primaries as the run had it, and the same file of primaries",
+    more: "\
+A certificate in brief tells the number of each object that --primaries names.
+The report tells them by lines PRIMARY.
+",
+    wrong: "PRIMARY 2\n",
+    right: "PRIMARY 1\n",
 };
 
 const SHELL_OF: Advice = Advice {

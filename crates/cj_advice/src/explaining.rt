@@ -40,7 +40,7 @@ pub fn list_of_causes(alloc: Global) -> Result<Vec<u8>, AllocError> {
     for cause in &EVERY {
         let word = cause_word(*cause);
         text.extend_from_slice(word)?;
-        for _ in word.len()..WIDEST {
+        for _ in word.len()..ALIGNED {
             text.push(b' ')?;
         }
         text.extend_from_slice(b"  ")?;
@@ -50,8 +50,8 @@ pub fn list_of_causes(alloc: Global) -> Result<Vec<u8>, AllocError> {
     Ok(text)
 }
 
-/// How many bytes the longest cause has.
-const WIDEST: usize = 22;
+/// Causes of at most so many bytes are filled up to it.
+const ALIGNED: usize = 22;
 
 /// The causes by their words alone, for one who asked for another.
 pub fn known_causes_text(alloc: Global) -> Result<Vec<u8>, AllocError> {

@@ -5,12 +5,12 @@ ghost use Rattle.cj_advice.specs.declared.cause.Cause.{Cause as AnyCause};
 
 use crate::cause::{Cause, FileReason, LimitCause, cause_word};
 use cj_epoch::EpochFault;
-use cj_formats::{CertCause, CheckCause, OemCause, SizesCause};
+use cj_formats::{CertCause, CheckCause, OemCause, PrimariesCause, SizesCause};
 use cj_kvn::KvnCause;
 use cj_status::CertificateCause;
 
 /// Each cause once, in the order of docs/FORMATS.md.
-pub const EVERY: [Cause; 64] = [
+pub const EVERY: [Cause; 71] = [
     Cause::Words,
     Cause::Value,
     Cause::File(FileReason::Oem(OemCause::Name)),
@@ -49,6 +49,12 @@ pub const EVERY: [Cause; 64] = [
     Cause::File(FileReason::Sizes(SizesCause::Range)),
     Cause::File(FileReason::Sizes(SizesCause::Twice)),
     Cause::File(FileReason::NoSizes),
+    Cause::File(FileReason::Primaries(PrimariesCause::Kvn(KvnCause::NotPrintable))),
+    Cause::File(FileReason::Primaries(PrimariesCause::Kvn(KvnCause::NoLineForm))),
+    Cause::File(FileReason::Primaries(PrimariesCause::Form)),
+    Cause::File(FileReason::Primaries(PrimariesCause::Twice)),
+    Cause::File(FileReason::Primaries(PrimariesCause::Unknown)),
+    Cause::File(FileReason::NoPrimaries),
     Cause::File(FileReason::Uncovered),
     Cause::Certificate(CertificateCause::NoFile),
     Cause::Certificate(CertificateCause::Text(CertCause::Form)),
@@ -56,6 +62,7 @@ pub const EVERY: [Cause; 64] = [
     Cause::Certificate(CertificateCause::Text(CertCause::End)),
     Cause::Certificate(CertificateCause::Refused(CheckCause::Header)),
     Cause::Certificate(CertificateCause::Refused(CheckCause::SizeOf)),
+    Cause::Certificate(CertificateCause::Refused(CheckCause::PrimaryOf)),
     Cause::Certificate(CertificateCause::Refused(CheckCause::ShellOf)),
     Cause::Certificate(CertificateCause::Refused(CheckCause::BoxOf)),
     Cause::Certificate(CertificateCause::Refused(CheckCause::Untiled)),

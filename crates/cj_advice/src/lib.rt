@@ -15,6 +15,7 @@ mod hints;
 mod limits;
 mod near;
 mod outside;
+mod primaries;
 mod ranges;
 mod several;
 mod sizes;

@@ -57,8 +57,12 @@ pub fn range_of(option: Opt) -> Hint {
             means: "--sizes is a name of 1 to 200 bytes: printable ASCII, no blank, no /",
             helps: "left out all objects are points; the file has to lie in DIR",
         },
+        Opt::Primaries => Hint {
+            means: "--primaries is a name of 1 to 200 bytes: printable ASCII, no blank, no /",
+            helps: "left out all pairs are looked at; the file has to lie in DIR",
+        },
         Opt::CertVersion => Hint {
-            means: "--cert-version is 1 or 2, and not beside --brief or --large",
+            means: "--cert-version is 1 or 2, not beside --brief, --large, --primaries",
             helps: "left out it is 1",
         },
         Opt::Update => Hint {

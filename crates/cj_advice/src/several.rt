@@ -23,9 +23,16 @@ fn push_on_files(text: &mut Vec<u8>, status: &Status) -> Result<(), AllocError> 
         b"hint: these are the first faults of their files; mending one may show another",
     )?;
     if let Some(cause) = cause_of(status) {
+        let word = cause_word(cause);
         text.extend_from_slice(b"\nhint: conj --explain \"")?;
-        text.extend_from_slice(cause_word(cause))?;
-        text.extend_from_slice(b"\" says what helps, and so for each")?;
+        text.extend_from_slice(word)?;
+        text.extend_from_slice(b"\" says what helps")?;
+        if word.len() <= SHORT {
+            text.extend_from_slice(b", and so for each")?;
+        }
     }
     Ok(())
 }
+
+/// Behind a cause of at most so many bytes the line has room for all that it says.
+const SHORT: usize = 22;

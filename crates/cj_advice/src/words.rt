@@ -1,7 +1,7 @@
 //! Each cause with what a person is told of it.
 use crate::advice::Advice;
 use crate::cause::{Cause, FileReason};
-use crate::{certificates, ephemerides, limits, outside, sizes, usage};
+use crate::{certificates, ephemerides, limits, outside, primaries, sizes, usage};
 
 /// What a person is told of a cause.
 pub fn advice_on(cause: Cause) -> Advice {
@@ -23,6 +23,8 @@ fn advice_on_file(reason: FileReason) -> Advice {
         FileReason::MixedFrames => sizes::MIXED_FRAMES,
         FileReason::Sizes(cause) => sizes::advice_on(cause),
         FileReason::NoSizes => sizes::NO_SIZES,
+        FileReason::Primaries(cause) => primaries::advice_on(cause),
+        FileReason::NoPrimaries => primaries::NO_PRIMARIES,
         FileReason::Uncovered => ephemerides::UNCOVERED,
     }
 }

@@ -6,7 +6,7 @@ ghost use Rattle.cj_track.specs.declared.frame.Frame.TheVariants.{Eme2000};
 ghost use Rattle.cj_track.specs.Segments.{node_count};
 
 use cj_base::Text;
-use cj_case::{Problem, Sizes, Tracks};
+use cj_case::{Primaries, Problem, Sizes, Tracks};
 use cj_samples::{AT_7000, along_y, along_z, rest, seconds, track_of};
 use cj_track::{Track, Vec3};
 use std::alloc::Global;
@@ -112,6 +112,7 @@ pub fn one(rt: &impl Abort, alloc: Global, a: Object) -> Problem
         window: seconds(0, 60),
         threshold: 5_000_000_000_000,
         sizes: Sizes::new(vec![in alloc; 0].expect(rt, "no fault")),
+        primaries: Primaries::all(),
     }
 }
 
@@ -128,6 +129,7 @@ pub fn sized(rt: &impl Abort, alloc: Global, a: Object, b: Object, size: Size) -
         window: seconds(0, 60),
         threshold: 5_000_000_000_000,
         sizes: Sizes::new(vec![in alloc; in_nm(size), 0].expect(rt, "no fault")),
+        primaries: Primaries::all(),
     }
 }
 
@@ -158,6 +160,7 @@ pub fn three(rt: &impl Abort, alloc: Global, a: Object, b: Object, c: Object) ->
         window: seconds(0, 60),
         threshold: 5_000_000_000_000,
         sizes: Sizes::new(vec![in alloc; 0, 0, 0].expect(rt, "no fault")),
+        primaries: Primaries::all(),
     }
 }
 

@@ -223,7 +223,7 @@ each_slot P n (x ∷ xs) f = (λ slot lt. (f slot lt).0, each_slot P n xs (λ sl
 
 -- the boxes of a pair that is kept touch by the new lines where they do by the old ones
 one_pair : (case : PlainProblem) (c : PlainCertificate) (pair : ℕ × ℕ) (slot : ℕ) → c.objects ≡ length case.tracks → IsPair (length case.tracks) pair → slot < slot_count case.first case.last
-    → (kept : Bool) → (keeps_between case.threshold case.sizes (shells_listed c) pair ≡ kept)
+    → (kept : Bool) → (keeps_between case.primaries case.threshold case.sizes (shells_listed c) pair ≡ kept)
     → (kept ≡ true → pair_touches (given_of case (boxes_by_lines case c.boxes) (pairs_by_shells case c)) (blocks.box_listed (blocks_of (given_of case (boxes_by_lines case c.boxes) (pairs_by_shells case c)))) slot pair
     ≡ pair_touches (given_of case (boxes_by_lines case c.boxes) (pairs_by_shells case c)) (box_given (given_of case (boxes_by_lines case c.boxes) (pairs_by_shells case c))) slot pair)
     → (kept && touch_between case.threshold case.sizes (boxes_listed (rewritten case c) slot) pair) ≡ (kept && touch_between case.threshold case.sizes (boxes_listed c slot) pair)
@@ -264,7 +264,7 @@ candidates_as case c objects =
     new = rewritten case c
 
     keeps : ℕ × ℕ → Bool
-    keeps = keeps_between case.threshold case.sizes (shells_listed c)
+    keeps = keeps_between case.primaries case.threshold case.sizes (shells_listed c)
 
     kept_pairs : Each (IsPair n) (filter keeps (pairs_of n))
     kept_pairs = Each-filter (IsPair n) keeps (pairs_of n) (Each-pairs n)
@@ -343,7 +343,7 @@ unfolding written
 blocks_same case time =
     let boxes = rows_same case (lines_of case) (λ i e is slot lt. box_is case e i slot time is lt) in
     let kept : pairs_by_shells case (written case) ≡ pairs_kept case =
-    ap (λ (ss : List (Option Shell)). filter (keeps_between case.threshold case.sizes ss) (pairs_of (length case.tracks))) (shells_same case) in
+    ap (λ (ss : List (Option Shell)). filter (keeps_between case.primaries case.threshold case.sizes ss) (pairs_of (length case.tracks))) (shells_same case) in
     λ i. with_blocks case (given_of case (boxes i) (kept i)) (written case)
 
 -- what a run writes in version 2 is accepted where it is in version 1

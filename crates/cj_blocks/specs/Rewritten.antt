@@ -29,7 +29,7 @@ boxes_by_lines case lines = map (λ object. map (λ slot. box_listed lines slot 
 
 -- the pairs whose listed shells are not parted
 abbrev pub pairs_by_shells : PlainProblem → PlainCertificate → List (ℕ × ℕ)
-pairs_by_shells case c = filter (keeps_between case.threshold case.sizes (shells_listed c)) (pairs_of (length case.tracks))
+pairs_by_shells case c = filter (keeps_between case.primaries case.threshold case.sizes (shells_listed c)) (pairs_of (length case.tracks))
 
 -- boxes and kept pairs of a problem
 abbrev pub given_of : PlainProblem → List (List (Option PlainBox)) → List (ℕ × ℕ) → Given

@@ -6,6 +6,7 @@ use Rattle.std.proofs.lemmas.Option.{slice_get-map}
 use Rattle.cj_interval.proofs.ListLemmas.{Each, Exists, Each-append, Each-both, Each-exists, Each-weaker, Exists-left, Exists-right, All-from_each, Any-from_exists, each_from_list_all}
 use Rattle.cj_track.specs.PlainTracks.{PlainTrack}
 use Rattle.cj_case.specs.PlainProblems.{PlainProblem, threshold_of}
+use Rattle.cj_case.specs.Primaries.{concerns}
 use Rattle.cj_case.specs.Cells.{PlainCell}
 use Rattle.cj_case.specs.Slots.{slot_first, slot_last, slot_of}
 use Rattle.cj_case.specs.Boxes.{PlainBox}
@@ -26,6 +27,7 @@ use Rattle.cj_bezier.specs.SlotBoxes.{box_of, reaches_in}
 use Rattle.cj_bezier.specs.Tiles.{IsLeaf, Tile}
 use Rattle.cj_bezier.specs.Verdicts.{Holds}
 use Rattle.cj_bezier.proofs.BoxRoundLemmas.{box_holds, none_without}
+use Rattle.cj_bezier.proofs.CandidateLemmas.{looked_at}
 use Rattle.cj_bezier.proofs.FarLemmas.{others_far}
 use Rattle.cj_bezier.proofs.HalvingLemmas.{HasTick, Each-tile, Exists-tile}
 use Rattle.cj_bezier.proofs.KindLemmas.{from_same_kind}
@@ -33,14 +35,14 @@ use Rattle.cj_bezier.proofs.TrueLeafLemmas.{IsTrueLeaf, tells_of, outside_of}
 use Rattle.cj_cert.specs.Accepted.{IsSupported}
 use Rattle.cj_cert.specs.Certificates.{PlainCertificate}
 use Rattle.cj_cert.specs.Splits.{CellsSplit}
-use Rattle.cj_cert.proofs.AcceptedLemmas.{true_leaf}
+use Rattle.cj_cert.proofs.AcceptedLemmas.{IsLookedAt, true_leaf}
 use Rattle.cj_cert.proofs.ListedLemmas.{AreAllInTime, in_shells}
 use Rattle.cj_cert.proofs.TiledLemmas.{in_part, true_cell}
 use Rattle.cj_cert.proofs.WrittenLemmas.{root_tile}
 use Rattle.cj_cert.proofs.WrittenLineLemmas.{of_lines_in}
 use Rattle.cj_brief.specs.Accepted.{is_candidate_in_brief, TilesOrFar, TileOrFar, IsFarThroughout, AcceptedInBrief}
 use Rattle.cj_brief.specs.Certificates.{PlainBrief, shells_in_brief}
-use Rattle.cj_brief.proofs.RootsBySlotLemmas.{Each-by_slot, Exists-by_slot}
+use Rattle.cj_brief.proofs.RootsBySlotLemmas.{Each-by_slot, Exists-by_slot, admitted_by_slot}
 
 -- ---- what holds of each cell, and which ticks are in one
 
@@ -145,6 +147,13 @@ others : (case : PlainProblem) (c : PlainBrief) → AreAllInTime case → Accept
 unfolding is_candidate_in_brief
 others case c time accepted = others_far case (shells_in_brief c) (boxes_in case) (in_shells case (in_full case c) time accepted.shells) (exact_boxes case time)
 
+-- the roots of the candidates are of pairs with a primary
+looked_at_roots : (case : PlainProblem) (c : PlainBrief) → Each (IsLookedAt case) (roots_by_slot (is_candidate_in_brief case c) case)
+unfolding is_candidate_in_brief
+looked_at_roots case c =
+    Each-both (IsRootOf case) (λ r. concerns case (r.a, r.b) ≡ true) (roots_by_slot (is_candidate_in_brief case c) case) (Each-by_slot (is_candidate_in_brief case c) case)
+    (admitted_by_slot (λ a b. concerns case (a, b) ≡ true) (is_candidate_in_brief case c) case (looked_at case (shells_in_brief c) (boxes_in case)))
+
 -- ---- the law
 
 pub splits_in_brief : (case : PlainProblem) (c : PlainBrief) → AreAllInTime case → 10 ^ 9 ≤ case.threshold → AcceptedInBrief case c → CellsSplit case c.cells
@@ -160,7 +169,7 @@ splits_in_brief case c time big accepted = record {
     all : All (IsTrueLeaf case) c.cells
     all =
         All-from_each (IsTrueLeaf case) c.cells
-        (each_told (IsSupported case) (IsTrueLeaf case) (IsFarThroughout case) (IsRootOf case) (true_leaf case time big) roots c.cells accepted.cells (Each-by_slot (is_candidate_in_brief case c) case))
+        (each_told (IsSupported case) (IsTrueLeaf case) (IsFarThroughout case) (IsLookedAt case) (true_leaf case time big) roots c.cells accepted.cells (looked_at_roots case c))
 
     told_or_far : (a b m : ℕ) → IsCommonOf case a b m → is_candidate_in_brief case c a b (slot_of case.first m) ≡ true → Exists (IsTickOf a b m) c.cells ⊎ IsFarAt case a b m
     told_or_far a b m common is =

@@ -1,4 +1,5 @@
 pub mod BriefLemmas
+pub mod PrimaryLemmas
 pub mod RootsBySlotLemmas
 pub mod TellingLemmas
 pub mod WrittenLemmas

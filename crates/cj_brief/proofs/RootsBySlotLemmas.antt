@@ -1,5 +1,5 @@
 -- The roots slot by slot: each is of two objects in the window, and each common tick of a candidate lies in one.
-use Rattle.std.proofs.Common.{◌≡◌, ℕ, ◌<◌, ◌≤◌, Bool, true, List, length, sym, subst, arith}
+use Rattle.std.proofs.Common.{◌≡◌, ℕ, ◌<◌, ◌≤◌, Bool, true, false, cond, List, [], ◌∷◌, length, refl, sym, subst, arith}
 use Rattle.std.specs.Prelude.{filter, is_some}
 use Rattle.cj_interval.proofs.ListLemmas.{Each, Exists, Each-always, Each-filter, Each-flat_map, Each-weaker, Exists-filter, Exists-flat_map, Exists-range, Exists-weaker}
 use Rattle.cj_case.specs.PlainProblems.{PlainProblem}
@@ -52,6 +52,32 @@ Each-by_slot candidate case =
         (Each-between case pair.0 pair.1 (slot_first case.first slot) (slot_last case.first case.last slot)))
         (candidates candidate case slot)
         (Each-filter (IsPair (length case.tracks)) (λ pair. candidate pair.0 pair.1 slot) (pairs_of (length case.tracks)) (Each-pairs (length case.tracks))))
+
+-- what is tested of the pairs that are taken
+each_passes : {X : Type 0} (test : X → Bool) (xs : List X) → Each (λ x. test x ≡ true) (filter test xs)
+each_passes test [] = tt
+each_passes test (x ∷ xs) = taken (test x) refl (each_passes test xs)
+  where
+    taken : (passes : Bool) → test x ≡ passes → Each (λ y. test y ≡ true) (filter test xs) → Each (λ y. test y ≡ true) (cond passes (x ∷ filter test xs) (filter test xs))
+    taken true is rest = (is, rest)
+    taken false is rest = rest
+
+-- what holds of the pair of each candidate holds of the pair of each root
+pub admitted_by_slot : (P : ℕ → ℕ → Type 0) (candidate : ℕ → ℕ → ℕ → Bool) (case : PlainProblem) → ((a b slot : ℕ) → candidate a b slot ≡ true → P a b) →
+    Each (λ r. P r.a r.b) (roots_by_slot candidate case)
+unfolding roots_by_slot
+admitted_by_slot P candidate case law =
+    Each-flat_map (λ r. P r.a r.b) (λ slot. roots_in_slot case slot (candidates candidate case slot)) (slots_of case)
+    (Each-always (λ slot. Each (λ r. P r.a r.b) (roots_in_slot case slot (candidates candidate case slot))) of_slot (slots_of case))
+  where
+    of_slot : (slot : ℕ) → Each (λ r. P r.a r.b) (roots_in_slot case slot (candidates candidate case slot))
+    of_slot slot =
+        Each-flat_map (λ r. P r.a r.b) (λ pair. roots_in case slot pair.0 pair.1) (candidates candidate case slot)
+        (Each-weaker (λ pair. candidate pair.0 pair.1 slot ≡ true) (λ pair. Each (λ r. P r.a r.b) (roots_in case slot pair.0 pair.1))
+        (λ pair is. Each-weaker (IsRootIn case slot pair) (λ r. P r.a r.b)
+        (λ r root. subst (λ (x : ℕ). P x r.b) (sym root.first_object) (subst (λ (y : ℕ). P pair.0 y) (sym root.second_object) (law pair.0 pair.1 slot is)))
+        (roots_in case slot pair.0 pair.1) (Each-between case pair.0 pair.1 (slot_first case.first slot) (slot_last case.first case.last slot)))
+        (candidates candidate case slot) (each_passes (λ pair. candidate pair.0 pair.1 slot) (pairs_of (length case.tracks))))
 
 pub Exists-by_slot : (candidate : ℕ → ℕ → ℕ → Bool) (case : PlainProblem) (a b m : ℕ) → a < b → b < length case.tracks → case.first ≤ m → m ≤ case.last
     → candidate a b (slot_of case.first m) ≡ true → is_some (numbers_at case a b m) ≡ true → Exists (Holds a b m) (roots_by_slot candidate case)

@@ -1,5 +1,5 @@
 -- The certificate in brief that a run writes is accepted.
-use Rattle.std.proofs.Common.{◌≡◌, ℕ, ◌^◌, ◌≤◌, inl, inr, Bool, true, false, cond, List, [], ◌∷◌, ◌++◌, length, map, Option, refl, sym, ap, subst}
+use Rattle.std.proofs.Common.{◌≡◌, ℕ, ◌^◌, ◌≤◌, inl, inr, Bool, true, false, cond, List, [], ◌∷◌, ◌++◌, map, Option, refl, sym, ap, subst}
 use Rattle.std.specs.List.{AllZip, enumerate_from, flat_map}
 use Rattle.cj_interval.proofs.ListLemmas.{Each}
 use Rattle.cj_case.specs.PlainProblems.{PlainProblem}
@@ -11,15 +11,13 @@ use Rattle.cj_hermite.proofs.RootLemmas.{IsRootOf}
 use Rattle.cj_bezier.specs.Candidates.{boxes_in, candidate_by, is_candidate, shells_of}
 use Rattle.cj_bezier.specs.RootLeaves.{is_far_throughout, leaves_of_root, told_of_root}
 use Rattle.cj_bezier.specs.ToldLeaves.{told_by, told_leaves}
-use Rattle.cj_cert.specs.declared.cert_lines.ShellLine.{ShellLine}
-use Rattle.cj_cert.specs.declared.cert_lines.SizeOfLine.{SizeOfLine}
 use Rattle.cj_cert.specs.Accepted.{AreShells, IsSupported, Accepted}
-use Rattle.cj_cert.specs.Written.{shell_line, size_lines, written}
+use Rattle.cj_cert.specs.Written.{shell_line, written}
 use Rattle.cj_cert.proofs.ListedLemmas.{AreAllInTime}
 use Rattle.cj_cert.proofs.WrittenLemmas.{root_tile, shells_same}
 use Rattle.cj_cert.proofs.WrittenLineLemmas.{sizes_numbered}
 use Rattle.cj_brief.specs.Accepted.{is_candidate_in_brief, TilesOrFar, TileOrFar, IsFarThroughout, AcceptedInBrief}
-use Rattle.cj_brief.specs.Certificates.{PlainBrief, shells_in_brief}
+use Rattle.cj_brief.specs.Certificates.{shells_in_brief}
 use Rattle.cj_brief.specs.Written.{written_in_brief}
 use Rattle.cj_brief.proofs.RootsBySlotLemmas.{Each-by_slot}
 
@@ -73,25 +71,8 @@ written_in_brief_accepted case time big accepted = record {
   threshold = refl;
   objects = refl;
   sizes = sizes_numbered 0 case.sizes;
+  primaries = refl;
   shells = shells_shown case accepted;
   cells = subst (λ (candidate : ℕ → ℕ → ℕ → Bool). TileOrFar (IsSupported case) (IsFarThroughout case) (roots_by_slot candidate case) (told_leaves case)) (sym (candidates_same case))
       (cells_told case time big);
 }
-
--- a certificate with these lines
-abbrev pub of_lines : PlainProblem → ℕ → List SizeOfLine → List ShellLine → List PlainLeaf → PlainBrief
-of_lines case objects sizes shells cells = record {
-  first = case.first;
-  last = case.last;
-  threshold = case.threshold;
-  objects = objects;
-  sizes = sizes;
-  shells = shells;
-  cells = cells;
-}
-
-pub brief_is : (case : PlainProblem) (objects : ℕ) (sizes : List SizeOfLine) (shells : List ShellLine) (cells : List PlainLeaf)
-    → objects ≡ length case.tracks → sizes ≡ size_lines case.sizes → shells ≡ map (shell_line case) (enumerate_from 0 case.tracks) → cells ≡ told_leaves case
-    → of_lines case objects sizes shells cells ≡ written_in_brief case
-unfolding written_in_brief
-brief_is case objects sizes shells cells p q r s = λ i. of_lines case (p i) (q i) (r i) (s i)

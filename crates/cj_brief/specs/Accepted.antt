@@ -2,6 +2,7 @@
 use Rattle.std.specs.Prelude.{◌≡◌, ℕ, ◌⊎◌, Bool, true, List, [], length}
 use Rattle.std.specs.List.{AllZip, flat_map}
 use Rattle.cj_case.specs.PlainProblems.{PlainProblem}
+use Rattle.cj_case.specs.Primaries.{named}
 use Rattle.cj_case.specs.Cells.{PlainCell}
 use Rattle.cj_case.specs.Leaves.{PlainLeaf}
 use Rattle.cj_hermite.specs.Roots.{roots_by_slot}
@@ -11,7 +12,7 @@ use Rattle.cj_bezier.specs.Tiles.{Tile}
 use Rattle.cj_cert.specs.Accepted.{AreSizes, AreShells, IsSupported}
 use Rattle.cj_brief.specs.Certificates.{PlainBrief, shells_in_brief}
 
--- a pair is a candidate in a slot: its listed shells are not parted, and the boxes of its objects touch
+-- a pair is a candidate in a slot: it has a primary, its listed shells are not parted, and the boxes of its objects touch
 unfoldable pub is_candidate_in_brief : PlainProblem → PlainBrief → ℕ → ℕ → ℕ → Bool
 is_candidate_in_brief case c = candidate_by case (shells_in_brief c) (boxes_in case)
 
@@ -29,7 +30,7 @@ pub record TileOrFar (P : PlainLeaf → Type 0) (F : PlainCell → Type 0) (root
 abbrev pub IsFarThroughout : PlainProblem → PlainCell → Type 0
 IsFarThroughout case r = is_far_throughout case r ≡ true
 
--- It was made for this window, threshold and number of objects, and for these sizes. Its shells hold the objects. Its cells say of each tick
+-- It was made for this window, threshold and number of objects, for these sizes and primaries. Its shells hold the objects. Its cells say of each tick
 -- of the roots, of the candidates by these shells and the exact boxes, what is so, slot by slot; but roots that are far throughout may be
 -- left out.
 pub record AcceptedInBrief (case : PlainProblem) (c : PlainBrief) : Type 0 where
@@ -38,5 +39,6 @@ pub record AcceptedInBrief (case : PlainProblem) (c : PlainBrief) : Type 0 where
   pub threshold : c.threshold ≡ case.threshold
   pub objects : c.objects ≡ length case.tracks
   pub sizes : AreSizes case c.sizes
+  pub primaries : c.primaries ≡ named case.primaries
   pub shells : AreShells case c.shells
   pub cells : TileOrFar (IsSupported case) (IsFarThroughout case) (roots_by_slot (is_candidate_in_brief case c) case) c.cells

@@ -8,13 +8,14 @@ use Rattle.cj_cert.specs.Certificates.{plain_cell_line}
 use Rattle.cj_brief.specs.declared.brief_certificate.BriefCertificate.{BriefCertificate}
 
 -- what a certificate in brief says: the window from its first tick to its last, the threshold in nm, how many objects there are, and of
--- these the sizes and the shells, and what some pairs are at which ticks
+-- these the sizes, which are named as primaries, and the shells, and what some pairs are at which ticks
 pub record PlainBrief : Type 0 where
   pub first : ℕ
   pub last : ℕ
   pub threshold : ℕ
   pub objects : ℕ
   pub sizes : List SizeOfLine
+  pub primaries : List ℕ
   pub shells : List ShellLine
   pub cells : List PlainLeaf
 
@@ -25,6 +26,7 @@ plain_brief c = record {
   threshold = c.threshold;
   objects = c.objects;
   sizes = c.sizes.items;
+  primaries = c.primaries.items;
   shells = c.shells.items;
   cells = map plain_cell_line c.cells.items;
 }
@@ -35,4 +37,4 @@ shells_in_brief c = map (λ line. line.shell) c.shells
 
 -- how many lines tell of objects and pairs
 abbrev pub line_count : PlainBrief → ℕ
-line_count c = length c.sizes + length c.shells + length c.cells
+line_count c = length c.sizes + length c.primaries + length c.shells + length c.cells

@@ -3,12 +3,14 @@ use Rattle.std.proofs.Common.{◌≡◌, ℕ, ◌+◌, ◌≤◌, ◌&&◌, ◌|
 use Rattle.std.specs.Prelude.{◌==◌, if◌then◌else◌}
 use Rattle.std.specs.List.{AllZip, flat_map}
 use Rattle.std.specs.Option.{option_or}
+use Rattle.std.proofs.lemmas.Bool.Decides.{Decides-eqb}
 use Rattle.std.proofs.lemmas.Bool.{cases_eq, eq-eqb, eqb-true, false_from_ne_true}
 use Rattle.cj_interval.proofs.ListLemmas.{Each, Exists, Ordered, Each-exists, Each-weaker}
 use Rattle.cj_case.specs.PlainProblems.{PlainProblem}
+use Rattle.cj_case.specs.Primaries.{named}
 use Rattle.cj_case.specs.Cells.{PlainCell}
 use Rattle.cj_case.specs.Leaves.{PlainLeaf}
-use Rattle.cj_formats.specs.declared.check_cause.CheckCause.TheVariants.{Stranger, Untiled}
+use Rattle.cj_formats.specs.declared.check_cause.CheckCause.TheVariants.{PrimaryOf, Stranger, Untiled}
 use Rattle.cj_formats.specs.declared.cert_version.CertVersion.TheVariants.{Two}
 use Rattle.cj_hermite.specs.Roots.{roots_by_slot}
 use Rattle.cj_hermite.proofs.RootLemmas.{IsRootOf}
@@ -17,14 +19,13 @@ use Rattle.cj_cert.specs.Accepted.{IsSupported}
 use Rattle.cj_brief.specs.Accepted.{AcceptedInBrief, IsFarThroughout, TileOrFar, TilesOrFar, is_candidate_in_brief}
 use Rattle.cj_brief.specs.Certificates.{PlainBrief}
 use Rattle.cj_brief.proofs.RootsBySlotLemmas.{Each-by_slot}
-use Rattle.cj_checker.specs.First.{failed, begins, behind, unsupported, header_failure, size_failure, shell_failure}
+use Rattle.cj_checker.specs.First.{failed, first_unfit, begins, behind, unsupported, header_failure, size_failure}
 use Rattle.cj_checker.specs.Tests.{is_supported}
 use Rattle.cj_checker.proofs.CauseLemmas.{behind_last, behind_within}
-use Rattle.cj_checker.proofs.FirstLemmas.{header_law, neither_fails, no_more, shell_law, size_law}
+use Rattle.cj_checker.proofs.FirstLemmas.{header_law, neither_fails, no_more, shells_from_law, size_law, tested}
 use Rattle.cj_checker.proofs.TestLemmas.{decides_nat_le, decides_supported}
-use Rattle.cj_brief_checker.specs.declared.step.Step.{Step}
 use Rattle.cj_brief_checker.specs.declared.step.Step.TheVariants as steps
-use Rattle.cj_brief_checker.specs.First.{comes_later, first_cell_line, first_failure_in_brief, in_full, object_failure_in_brief, told_failure, told_from, wants_cells}
+use Rattle.cj_brief_checker.specs.First.{comes_later, first_cell_line, first_failure_in_brief, first_primary_line, first_shell_line_in_brief, head_failure_in_brief, in_full, object_failure_in_brief, primary_failure, shell_failure_in_brief, told_failure, told_from, wants_cells}
 use Rattle.cj_brief_checker.specs.Steps.{step_of}
 use Rattle.cj_brief_checker.proofs.OrderLemmas.{IsAt, IsLater, Ordered-by_slot, later_cell, not_begun}
 use Rattle.cj_brief_checker.proofs.StepLemmas.{after_step, told_end, told_none, told_step}
@@ -155,18 +156,38 @@ told_law case c =
           (Ordered-by_slot (is_candidate_in_brief case c) case) tile.tiles (first_cell_line c),
     )
 
+-- ---- the lines of primaries
+
+numbers_law : (at : ℕ) (numbers lines : List ℕ) → (first_unfit (λ object line. object == line) PrimaryOf at numbers lines ≡ None) ↔ (lines ≡ numbers)
+unfolding first_unfit
+numbers_law at [] [] = (λ h. refl, λ same. refl)
+numbers_law at [] (l ∷ lines) = (λ h. absurd cc, λ same. absurd cc)
+numbers_law at (n ∷ numbers) [] = (λ h. absurd cc, λ same. absurd cc)
+numbers_law at (n ∷ numbers) (l ∷ lines) =
+    let here = tested (n == l) at PrimaryOf (first_unfit (λ object line. object == line) PrimaryOf (at + 1) numbers lines) (Decides-eqb n l) in
+    let rest = numbers_law (at + 1) numbers lines in (
+      λ h. let both = here.0 h in let head = both.0 in let tail = rest.0 both.1 in λ j. sym head j ∷ tail j,
+      λ same.
+          let head : l ≡ n = cc in
+          let tail : lines ≡ numbers = cc in
+          here.1 (sym head, rest.1 tail),
+    )
+
 -- ---- the certificate
 
 pub first_law : (case : PlainProblem) (c : PlainBrief) → (first_failure_in_brief case c ≡ None) ↔ AcceptedInBrief case c
 unfolding first_failure_in_brief
 first_law case c =
-    let shells = shell_failure case (in_full c) in
+    let shells = shells_from_law case (first_shell_line_in_brief c) c.shells in
+    let primaries = numbers_law (first_primary_line c) (named case.primaries) c.primaries in
     let both = neither_fails (object_failure_in_brief case c) (told_failure case c) in
-    let by_header = neither_fails (header_failure case (in_full c)) (option_or (size_failure case (in_full c)) shells) in
-    let by_size = neither_fails (size_failure case (in_full c)) shells in (
+    let by_head = neither_fails (head_failure_in_brief case c) (shell_failure_in_brief case c) in
+    let by_header = neither_fails (header_failure case (in_full c)) (option_or (size_failure case (in_full c)) (primary_failure case c)) in
+    let by_size = neither_fails (size_failure case (in_full c)) (primary_failure case c) in (
       λ h.
           let a = both.0 h in
-          let b = by_header.0 a.0 in
+          let e = by_head.0 a.0 in
+          let b = by_header.0 e.0 in
           let d = by_size.0 b.1 in
           let made = (header_law case (in_full c)).0 b.0 in
           record {
@@ -175,14 +196,18 @@ first_law case c =
             threshold = made.threshold;
             objects = made.objects;
             sizes = (size_law Two case c.sizes).0 d.0;
-            shells = (shell_law case (in_full c)).0 d.1;
+            primaries = primaries.0 d.1;
+            shells = shells.0 e.1;
             cells = (told_law case c).0 a.1;
           },
       λ is.
           both.1 (
-            by_header.1 (
-              (header_law case (in_full c)).1 (record { first = is.first; last = is.last; threshold = is.threshold; objects = is.objects }),
-              by_size.1 ((size_law Two case c.sizes).1 is.sizes, (shell_law case (in_full c)).1 is.shells),
+            by_head.1 (
+              by_header.1 (
+                (header_law case (in_full c)).1 (record { first = is.first; last = is.last; threshold = is.threshold; objects = is.objects }),
+                by_size.1 ((size_law Two case c.sizes).1 is.sizes, primaries.1 is.primaries),
+              ),
+              shells.1 is.shells,
             ),
             (told_law case c).1 is.cells,
           ),

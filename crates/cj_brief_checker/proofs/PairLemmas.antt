@@ -1,5 +1,5 @@
 -- The candidates of a slot: pairs that are found in any order, and put in order.
-use Rattle.std.proofs.Common.{◌≡◌, ℕ, ◌<◌, ◌≤◌, ◌&&◌, Bool, true, false, cond, List, [], ◌∷◌, filter, map, length, refl, sym, ap, ◌∙◌, subst, inl, inr, arith, nat_cmp}
+use Rattle.std.proofs.Common.{◌≡◌, ℕ, ◌<◌, ◌≤◌, ◌&&◌, Bool, true, false, cond, List, [], ◌∷◌, filter, map, refl, sym, ◌∙◌, subst, inl, inr, arith, nat_cmp}
 use Rattle.std.specs.Prelude.{All, nat_eq}
 use Rattle.std.specs.Ordering.{ordering_then, eq_by_cmp, is_eq}
 use Rattle.std.specs.declared.cmp.Ordering.{Ordering}

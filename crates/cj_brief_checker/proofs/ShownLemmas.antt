@@ -15,9 +15,9 @@ use Rattle.cj_bezier.proofs.AllBoxLemmas.{row_length}
 use Rattle.cj_cert.specs.declared.cert_lines.ShellLine.{ShellLine}
 use Rattle.cj_checker.specs.declared.row.Row.{Row}
 use Rattle.cj_checker.specs.First.{failed, fits_at}
-use Rattle.cj_checker.specs.HullBoxes.{plain_row, row_at, row_of}
+use Rattle.cj_checker.specs.Rows.{plain_row, row_at, row_of}
 use Rattle.cj_checker.specs.Tests.{is_shell_line, is_shell_over}
-use Rattle.cj_checker.proofs.UnfitLemmas.{dropped, ended, fits_none, fits_some, no_more, unfit_done, unfit_from, unfit_more, unfit_now, unfit_short, unnumbered}
+use Rattle.cj_checker.proofs.UnfitLemmas.{dropped, ended, fits_none, fits_some, unfit_done, unfit_from, unfit_more, unfit_now, unfit_short, unnumbered}
 use Rattle.cj_brief_checker.specs.Shown.{first_unfit_shell, rows_from}
 
 -- ---- rows that are made one by one

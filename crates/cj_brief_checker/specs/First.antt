@@ -2,16 +2,17 @@
 use Rattle.std.specs.Prelude.{ℕ, ◌+◌, ◌==◌, Bool, false, ◌&&◌, ◌||◌, not, nat_le, nat_lt, if◌then◌else◌, List, [], ◌∷◌, length, Option, None, Result, Ok, Err}
 use Rattle.std.specs.Option.{option_or}
 use Rattle.cj_case.specs.PlainProblems.{PlainProblem}
+use Rattle.cj_case.specs.Primaries.{named}
 use Rattle.cj_case.specs.Cells.{PlainCell}
 use Rattle.cj_case.specs.Leaves.{PlainLeaf}
 use Rattle.cj_case.specs.Slots.{slot_of}
 use Rattle.cj_formats.specs.declared.cert_version.CertVersion.TheVariants.{Two}
 use Rattle.cj_formats.specs.declared.check_cause.CheckCause.{CheckCause}
-use Rattle.cj_formats.specs.declared.check_cause.CheckCause.TheVariants.{Untiled, Stranger}
+use Rattle.cj_formats.specs.declared.check_cause.CheckCause.TheVariants.{PrimaryOf, Untiled, Stranger}
 use Rattle.cj_hermite.specs.Roots.{roots_by_slot}
 use Rattle.cj_bezier.specs.RootLeaves.{is_far_throughout}
 use Rattle.cj_cert.specs.Certificates.{PlainCertificate}
-use Rattle.cj_checker.specs.First.{Failure, failed, first_line, begins, comes_after, behind, unsupported, header_failure, size_failure, shell_failure}
+use Rattle.cj_checker.specs.First.{Failure, failed, first_line, first_unfit, begins, comes_after, behind, unsupported, header_failure, shells_from, size_failure}
 use Rattle.cj_checker.specs.Tests.{is_supported}
 use Rattle.cj_brief.specs.Accepted.{is_candidate_in_brief}
 use Rattle.cj_brief.specs.Certificates.{PlainBrief}
@@ -56,7 +57,7 @@ told_from case (s ∷ cells) line begun roots = goes_on (told_from case cells) l
 
 -- ---- the certificate
 
--- the same header, sizes and shells in full
+-- the same header and sizes in full
 abbrev pub in_full : PlainBrief → PlainCertificate
 in_full c = record {
   version = Two;
@@ -70,19 +71,32 @@ in_full c = record {
   cells = [];
 }
 
+abbrev pub first_primary_line : PlainBrief → ℕ
+first_primary_line c = first_line + length c.sizes
+
+-- a line for each object that is named as a primary, in order
+abbrev pub primary_failure : PlainProblem → PlainBrief → Option Failure
+primary_failure case c = first_unfit (λ object line. object == line) PrimaryOf (first_primary_line c) (named case.primaries) c.primaries
+
+abbrev pub first_shell_line_in_brief : PlainBrief → ℕ
+first_shell_line_in_brief c = first_primary_line c + length c.primaries
+
+abbrev pub shell_failure_in_brief : PlainProblem → PlainBrief → Option Failure
+shell_failure_in_brief case c = shells_from case (first_shell_line_in_brief c) c.shells
+
 abbrev pub first_cell_line : PlainBrief → ℕ
-first_cell_line c = first_line + length c.sizes + length c.shells
+first_cell_line c = first_shell_line_in_brief c + length c.shells
 
 abbrev pub told_failure : PlainProblem → PlainBrief → Option Failure
 told_failure case c = told_from case c.cells (first_cell_line c) false (roots_by_slot (is_candidate_in_brief case c) case)
 
 -- what fails before the shells
 abbrev pub head_failure_in_brief : PlainProblem → PlainBrief → Option Failure
-head_failure_in_brief case c = option_or (header_failure case (in_full c)) (size_failure case (in_full c))
+head_failure_in_brief case c = option_or (header_failure case (in_full c)) (option_or (size_failure case (in_full c)) (primary_failure case c))
 
 -- what fails before the cells
 abbrev pub object_failure_in_brief : PlainProblem → PlainBrief → Option Failure
-object_failure_in_brief case c = option_or (header_failure case (in_full c)) (option_or (size_failure case (in_full c)) (shell_failure case (in_full c)))
+object_failure_in_brief case c = option_or (head_failure_in_brief case c) (shell_failure_in_brief case c)
 
 -- its points one after another
 unfoldable pub first_failure_in_brief : PlainProblem → PlainBrief → Option Failure

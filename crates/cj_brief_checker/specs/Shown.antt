@@ -1,5 +1,5 @@
 -- What the lines of shells show of the objects.
-use Rattle.std.specs.Prelude.{◌≡◌, ℕ, ◌+◌, List, [], ◌∷◌, map, Option, Some, None}
+use Rattle.std.specs.Prelude.{◌≡◌, ℕ, ◌+◌, List, [], ◌∷◌, Option, Some, None}
 use Rattle.std.specs.List.{enumerate_from}
 use Rattle.cj_case.specs.PlainProblems.{PlainProblem}
 use Rattle.cj_case.specs.Slots.{slot_count}
@@ -10,7 +10,7 @@ use Rattle.cj_formats.specs.declared.check_cause.CheckCause.TheVariants.{ShellOf
 use Rattle.cj_bezier.specs.AllBoxes.{boxes_of}
 use Rattle.cj_cert.specs.declared.cert_lines.ShellLine.{ShellLine}
 use Rattle.cj_checker.specs.First.{Failure, first_unfit}
-use Rattle.cj_checker.specs.HullBoxes.{row_at}
+use Rattle.cj_checker.specs.Rows.{row_at}
 use Rattle.cj_checker.specs.Tests.{is_shell_line}
 use Rattle.cj_brief_checker.specs.declared.shown.Shown.{Shown}
 use Rattle.cj_brief_checker.specs.declared.shown.Shown.TheVariants.{Boxes, Fails}

@@ -10,7 +10,7 @@ use Rattle.cj_checker.specs.declared.cell_fault.CellFault.{CellFault}
 use Rattle.cj_checker.specs.First.{failed, begins, unsupported, Failure}
 use Rattle.cj_brief_checker.specs.declared.step.Step.{Step}
 use Rattle.cj_brief_checker.specs.declared.step.Step.TheVariants as steps
-use Rattle.cj_brief_checker.specs.First.{comes_later, told_from, wants_cells}
+use Rattle.cj_brief_checker.specs.First.{comes_later, told_from}
 
 -- what a cell is for a root that is left, by whether its kind is supported
 abbrev pub step_of : Bool → ℕ → PlainCell → PlainLeaf → Step

@@ -20,7 +20,7 @@ fn failure_at(cert: &BriefCertificate, fault: CellFault) -> Option<Failure>
     requires place { fault.at ≤ vec_len cert.now.cells }
     ensures { result ≡ failed (first_cell_line (plain_brief cert.now) + fault.at) fault.cause }
 {
-    let before = cert.sizes.len() + cert.shells.len() + fault.at;
+    let before = cert.sizes.len() + cert.primaries.len() + cert.shells.len() + fault.at;
     Some(Failure {
         line: 5 + before as u32,
         cause: fault.cause,

@@ -6,28 +6,49 @@ ghost use Rattle.cj_brief.specs.Accepted.{AcceptedInBrief};
 ghost use Rattle.cj_brief.specs.Certificates.{line_count, plain_brief};
 ghost use Rattle.cj_brief.specs.Splits.{BriefSplits};
 ghost use Rattle.cj_checker.specs.Answers.{failure_of};
-ghost use Rattle.cj_brief_checker.specs.First.{first_failure_in_brief, head_failure_in_brief};
+ghost use Rattle.cj_checker.specs.First as first;
+ghost use Rattle.cj_brief_checker.specs.First.{first_failure_in_brief, head_failure_in_brief, in_full};
 
 use crate::cells::cell_failure;
 use crate::header::header_failure;
+use crate::primaries::unfit_primary;
 use crate::showing::show;
 use crate::shown::Shown;
-use cj_brief::{BriefCertificate, acceptance_in_brief};
+use cj_brief::{BriefCertificate, acceptance_in_brief, primary_lines};
 use cj_case::Problem;
 use cj_checker::{Answer, Failure, unfit_size};
 use std::alloc::{AllocError, Global};
 use std::thread::Threads;
 
 /// The first failure of what is said of the run and of the sizes.
-fn head_failure(problem: &Problem, cert: &BriefCertificate) -> Option<Failure>
+fn size_failure(problem: &Problem, cert: &BriefCertificate) -> Option<Failure>
     requires few { line_count (plain_brief cert.now) < 2 ^ 32 - 5 }
-    ensures { result ≡ head_failure_in_brief (plain_problem problem.now) (plain_brief cert.now) }
+    ensures { result ≡ option_or (first.header_failure (plain_problem problem.now) (in_full (plain_brief cert.now)))
+        (first.size_failure (plain_problem problem.now) (in_full (plain_brief cert.now))) }
 {
     let header = header_failure(problem, cert);
     if header.is_some() {
         return header;
     }
     unfit_size(problem.sizes.as_slice(), &cert.sizes)
+}
+
+/// The first failure of what is said of the run, of the sizes and of the primaries.
+fn head_failure(
+    alloc: Global,
+    problem: &Problem,
+    cert: &BriefCertificate,
+) -> Result<Option<Failure>, AllocError>
+    requires few { line_count (plain_brief cert.now) < 2 ^ 32 - 5 }
+    ensures { IfOk result (λ found. found ≡ head_failure_in_brief (plain_problem problem.now) (plain_brief cert.now)) }
+{
+    let found = size_failure(problem, cert);
+    if found.is_some() {
+        return Ok(found);
+    }
+    let named = primary_lines(alloc, problem)?;
+    let first = 5 + cert.sizes.len() as u32;
+    Ok(unfit_primary(&named, first, &cert.primaries))
 }
 
 /// The first failure of a certificate.
@@ -41,11 +62,11 @@ fn first_failure<R: Threads + Sync>(
     requires few { line_count (plain_brief cert.now) < 2 ^ 32 - 5 }
     ensures { IfOk result (λ found. found ≡ first_failure_in_brief (plain_problem problem.now) (plain_brief cert.now)) }
 {
-    let found = head_failure(problem, cert);
+    let found = head_failure(alloc, problem, cert)?;
     if found.is_some() {
         return Ok(found);
     }
-    let first = 5 + cert.sizes.len() as u32;
+    let first = 5 + cert.sizes.len() as u32 + cert.primaries.len() as u32;
     let shown = show(rt, alloc, problem, first, &cert.shells, workers)?;
     match shown {
         Shown::Fails(failure) => Ok(Some(failure)),

@@ -8,6 +8,7 @@ mod far;
 mod halt;
 mod header;
 mod laws;
+mod primaries;
 mod showing;
 mod shown;
 mod slot_cells;

@@ -5,7 +5,7 @@ ghost use Rattle.cj_case.specs.Slots.{slot_count as the_count};
 ghost use Rattle.cj_cert.specs.declared.cert_lines.ShellLine.{ShellLine};
 ghost use Rattle.cj_formats.specs.declared.check_cause.CheckCause.TheVariants.{ShellOf};
 ghost use Rattle.cj_checker.specs.First.{failed as a_failure};
-ghost use Rattle.cj_checker.specs.HullBoxes.{plain_row, row_at};
+ghost use Rattle.cj_checker.specs.Rows.{plain_row, row_at};
 ghost use Rattle.cj_brief_checker.specs.Shown.{AreShown, rows_from};
 
 use crate::shown::Shown;

@@ -19,13 +19,13 @@ use Rattle.cj_cert_text.specs.declared.rank.Rank.TheVariants as rank
 use Rattle.cj_cert.specs.Certificates.{PlainBoxLine}
 use Rattle.cj_cert_text.specs.Fits.{FitsSize, FitsShell, FitsBox, FitsCell}
 use Rattle.cj_cert_text.specs.Lines as spec
-use Rattle.cj_cert_text.specs.Lines.{PlainLine, Heading, Window, Threshold, Objects, Size, Shell, Box, Cell, End, rank_of, said_by, in_range, is_from, is_tick, is_object}
+use Rattle.cj_cert_text.specs.Lines.{PlainLine, Heading, Window, Threshold, Objects, Size, Primary, Shell, Box, Cell, End, rank_of, said_by, in_range, is_from, is_tick, is_object}
 use Rattle.cj_case.specs.CaseLimits.{MAX_SIZE}
 use Rattle.cj_cert_text.specs.Lines.{is_radius, MAX_THRESHOLD}
 use Rattle.cj_cert_text.specs.Readers.{HasNoNumber}
 use Rattle.cj_cert_text.specs.Texts.{number, ends, kind_word}
 use Rattle.cj_cert_text.proofs.WordLemmas.{AreAbove, AreSmall, AreWords, texts_words, nothing_first, other_first}
-use Rattle.cj_cert_text.proofs.LineLemmas.{FitsLine, FitsSizeIn, FitsSlots, numbers_of, slots_in, others_of, word_of, words_of, into_range, is_object_of, object_back, le_of, small_coordinate, small_objects, small_version, reach_parts, box_test}
+use Rattle.cj_cert_text.proofs.LineLemmas.{FitsLine, FitsPrimaryIn, FitsSizeIn, FitsSlots, numbers_of, slots_in, others_of, word_of, words_of, into_range, is_object_of, object_back, le_of, small_coordinate, small_objects, small_version, reach_parts, box_test}
 
 in_range_of : (b : Bool) (line l : PlainLine) → b ≡ true → line ≡ l → in_range b line ≡ Ok l
 in_range_of b line l is same = ap (λ (t : Bool). in_range t line) is ∙ ap (λ (k : PlainLine). Ok k) same
@@ -43,6 +43,11 @@ size_again : (v : CertFormat) (s : SizeOfLine) → FitsSizeIn v s → spec.size 
 size_again (Full One) s fits = absurd fits
 size_again (Full Two) s fits = size_of_again (Full Two) s fits
 size_again Brief s fits = size_of_again Brief s fits
+
+primary_again : (v : CertFormat) (object : ℕ) → FitsPrimaryIn v object → spec.primary v (number object ∷ []) ≡ Ok (Primary object)
+primary_again (Full version) object fits = absurd fits
+primary_again Brief object fits =
+    in_range_of (is_object Brief (number object)) _ _ (is_object_of Brief object fits) (ap (λ (o : ℕ). Primary o) (object_back object))
 
 radii_again : (v : CertFormat) (o lo hi : ℕ) → o < most_objects_in v → lo ≤ hi → hi ≤ MAX_RADIUS → spec.shell v (number o ∷ pos lo ∷ pos hi ∷ []) ≡ Ok (Shell (record {
   object =
@@ -109,6 +114,7 @@ said_again v (Window first last) fits =
 said_again v (Threshold threshold) fits = in_range_of (is_from 1 MAX_THRESHOLD (pos threshold)) _ _ (into_range 1 MAX_THRESHOLD threshold fits.0 fits.1) refl
 said_again v (Objects count) fits = in_range_of (is_from 0 (most_objects_in v) (pos count)) _ _ (into_range 0 (most_objects_in v) count (omega arith) fits) refl
 said_again v (Size s) fits = size_again v s fits
+said_again v (Primary object) fits = primary_again v object fits
 said_again v (Shell s) fits = shell_again v s.object s.shell fits
 said_again v (Box b) fits = box_again v b fits.1 fits.0
 said_again v (Cell s) fits = cell_again v s s.kind refl fits
@@ -148,12 +154,17 @@ size_small (Full One) s fits = absurd fits
 size_small (Full Two) s fits = (omega (arith, fits.object), (omega (arith, fits.size), tt))
 size_small Brief s fits = (omega (arith, fits.object), (omega (arith, fits.size), tt))
 
+primary_small : (v : CertFormat) (object : ℕ) → FitsPrimaryIn v object → AreSmall (numbers_of v (Primary object))
+primary_small (Full version) object fits = absurd fits
+primary_small Brief object fits = (omega (arith, fits), tt)
+
 pub numbers_small : (v : CertFormat) (l : PlainLine) → FitsLine v l → AreSmall (numbers_of v l)
 numbers_small v Heading fits = (omega (arith, small_version v), tt)
 numbers_small v (Window first last) fits = (tick_small first fits.0.1, (tick_small last fits.1.1, tt))
 numbers_small v (Threshold threshold) fits = (omega (arith, fits.1), tt)
 numbers_small v (Objects count) fits = (omega (arith, small_objects v, fits), tt)
 numbers_small v (Size s) fits = size_small v s fits
+numbers_small v (Primary object) fits = primary_small v object fits
 numbers_small v (Shell s) fits = shell_small v s.object s.shell fits
 numbers_small v (Box b) fits = (omega (arith, small_objects v, fits.0.object), slots_small v b fits.0 (ends_small v b fits.0))
 numbers_small v (Cell s) fits =
@@ -175,6 +186,7 @@ others_last (Window first last) = nothing_first
 others_last (Threshold threshold) = nothing_first
 others_last (Objects count) = nothing_first
 others_last (Size s) = nothing_first
+others_last (Primary object) = nothing_first
 others_last (Shell s) = shell_other s.object s.shell
 others_last (Box b) = nothing_first
 others_last (Cell s) = kind_other s.kind
@@ -195,6 +207,7 @@ others_words (Window first last) = tt
 others_words (Threshold threshold) = tt
 others_words (Objects count) = tt
 others_words (Size s) = tt
+others_words (Primary object) = tt
 others_words (Shell s) = shell_words s.shell
 others_words (Box b) = tt
 others_words (Cell s) = (kind_above s.kind, tt)
@@ -206,6 +219,7 @@ word_above rank.Window = omega arith
 word_above rank.Threshold = omega arith
 word_above rank.Objects = omega arith
 word_above rank.Size = omega arith
+word_above rank.Primary = omega arith
 word_above rank.Shell = omega arith
 word_above rank.Box = omega arith
 word_above rank.Cell = omega arith

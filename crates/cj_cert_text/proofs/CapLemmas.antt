@@ -132,6 +132,18 @@ size_kept (Full One) numbers = refl
 size_kept (Full Two) numbers = size_of_kept (Full Two) numbers
 size_kept Brief numbers = size_of_kept Brief numbers
 
+primary_of_kept : (numbers : List ℤ) → spec.primary_of (map capped numbers) ≡ spec.primary_of numbers
+primary_of_kept [] = refl
+primary_of_kept (i ∷ []) =
+    settle (is_object Brief i) (is_object Brief (capped i)) _ _
+    (λ t. ap (λ (x : ℤ). spec.primary_of (x ∷ [])) (kept_from 1 (most_objects_in Brief) i (omega arith) t))
+    (λ t. ap (λ (x : ℤ). spec.primary_of (x ∷ [])) (was_kept_from 1 (most_objects_in Brief) i (omega arith) t))
+primary_of_kept (i ∷ z ∷ zs) = refl
+
+primary_kept : (v : CertFormat) (numbers : List ℤ) → spec.primary v (map capped numbers) ≡ spec.primary v numbers
+primary_kept (Full version) numbers = refl
+primary_kept Brief numbers = primary_of_kept numbers
+
 record ShellTests (v : CertFormat) (i lo hi : ℤ) : Type 0 where
   object : is_object v i ≡ true
   low : is_radius lo ≡ true
@@ -288,6 +300,7 @@ all_kept v rank.Window numbers words = ap (spec.alone words) (window_kept number
 all_kept v rank.Threshold numbers words = ap (spec.alone words) (threshold_kept numbers)
 all_kept v rank.Objects numbers words = ap (spec.alone words) (objects_kept v numbers)
 all_kept v rank.Size numbers words = ap (spec.alone words) (size_kept v numbers)
+all_kept v rank.Primary numbers words = ap (spec.alone words) (primary_kept v numbers)
 all_kept v rank.Shell numbers words = shell_kept v numbers words
 all_kept v rank.Box numbers words = ap (spec.alone words) (box_both v numbers)
 all_kept v rank.Cell numbers words = cell_kept v numbers (spec.kind_of words)
@@ -302,6 +315,10 @@ form_size : (v : CertFormat) (a b c : ℤ) (ns : List ℤ) → spec.size v (a �
 form_size (Full One) a b c ns = refl
 form_size (Full Two) a b c ns = refl
 form_size Brief a b c ns = refl
+
+form_primary : (v : CertFormat) (a b : ℤ) (ns : List ℤ) → spec.primary v (a ∷ b ∷ ns) ≡ Err causes.Form
+form_primary (Full version) a b ns = refl
+form_primary Brief a b ns = refl
 
 form_box : (v : CertFormat) (a b c d e f g h i j : ℤ) (ns : List ℤ) → spec.box v (a ∷ b ∷ c ∷ d ∷ e ∷ f ∷ g ∷ h ∷ i ∷ j ∷ ns) ≡ Err causes.Form
 form_box (Full One) a b c d e f g h i j ns = refl
@@ -318,6 +335,7 @@ too_many v rank.Window a b c d e f g h i j ns words = form_alone words
 too_many v rank.Threshold a b c d e f g h i j ns words = form_alone words
 too_many v rank.Objects a b c d e f g h i j ns words = form_alone words
 too_many v rank.Size a b c d e f g h i j ns words = ap (spec.alone words) (form_size v a b c (d ∷ e ∷ f ∷ g ∷ h ∷ i ∷ j ∷ ns)) ∙ form_alone words
+too_many v rank.Primary a b c d e f g h i j ns words = ap (spec.alone words) (form_primary v a b (c ∷ d ∷ e ∷ f ∷ g ∷ h ∷ i ∷ j ∷ ns)) ∙ form_alone words
 too_many v rank.Shell a b c d e f g h i j ns words = form_shell v a b c d (e ∷ f ∷ g ∷ h ∷ i ∷ j ∷ ns) words
 too_many v rank.Box a b c d e f g h i j ns words = ap (spec.alone words) (form_box v a b c d e f g h i j ns) ∙ form_alone words
 too_many v rank.Cell a b c d e f g h i j ns words = refl

@@ -26,13 +26,13 @@ use Rattle.cj_cert.specs.Certificates.{PlainBoxLine, PlainCertificate}
 use Rattle.cj_brief.specs.Certificates.{PlainBrief}
 use Rattle.cj_base.specs.Ticks.{IsTick}
 use Rattle.cj_cert_text.specs.Fits.{Fits, FitsInBrief, FitsSize, FitsShell, FitsBox, FitsCell, IsOfVersion}
-use Rattle.cj_cert_text.specs.Lines.{MAX_THRESHOLD, PlainLine, Heading, Window, Threshold, Objects, Size, Shell, Box, Cell, End, rank_of, said, said_by, said_in, line_said, where_it_may_stand}
+use Rattle.cj_cert_text.specs.Lines.{MAX_THRESHOLD, PlainLine, Heading, Window, Threshold, Objects, Size, Primary, Shell, Box, Cell, End, rank_of, said, said_by, said_in, line_said, where_it_may_stand}
 use Rattle.cj_cert_text.specs.Ranks.{has_ended, may_follow}
 use Rattle.cj_cert_text.specs.Reading.{Fault, PlainSaid, and_then, at_line, ends_at, in_brief, in_version, lines_said, nothing_said, reading, reading_in_brief, reads_on, version_of, with_line}
-use Rattle.cj_cert_text.specs.Texts.{row, size_text, shell_text, box_text, cell_text, text_of, brief_text}
+use Rattle.cj_cert_text.specs.Texts.{row, size_text, primary_text, shell_text, box_text, cell_text, text_of, brief_text}
 use Rattle.cj_cert_text.proofs.AgainLemmas.{line_words, numbers_small, others_last, said_again}
 use Rattle.cj_cert_text.proofs.LineLemmas.{FitsLine, numbers_of, others_of, word_of, word_ranks, words_of}
-use Rattle.cj_cert_text.proofs.ReadLemmas.{box_text_in, in_brief_text, line_text, text_in, text_is_told, told}
+use Rattle.cj_cert_text.proofs.ReadLemmas.{box_text_in, full_text, in_brief_text, line_text, text_in, text_is_told, told}
 use Rattle.cj_cert_text.proofs.WordLemmas.{joined_above, joined_again, line_first, words_again}
 
 -- ---- one line
@@ -103,8 +103,11 @@ box_lines c = map Box c.boxes ++ cell_lines c
 abbrev shell_lines : PlainSaid → List PlainLine
 shell_lines c = map Shell c.shells ++ box_lines c
 
+abbrev primary_lines : PlainSaid → List PlainLine
+primary_lines c = map Primary c.primaries ++ shell_lines c
+
 abbrev size_lines : PlainSaid → List PlainLine
-size_lines c = map Size c.sizes ++ shell_lines c
+size_lines c = map Size c.sizes ++ primary_lines c
 
 abbrev lines_of : PlainSaid → List PlainLine
 lines_of c = Heading ∷ Window c.first c.last ∷ Threshold c.threshold ∷ Objects c.objects ∷ size_lines c
@@ -113,6 +116,11 @@ lines_of c = Heading ∷ Window c.first c.last ∷ Threshold c.threshold ∷ Obj
 with_sizes : (c : PlainSaid) (xs : List SizeOfLine) (rest : List PlainLine) → with_lines c (map Size xs ++ rest) ≡ with_lines (record c { sizes = c.sizes ++ xs }) rest
 with_sizes c [] rest = ap (λ (ys : List SizeOfLine). with_lines (record c { sizes = ys }) rest) (sym (append-nil c.sizes))
 with_sizes c (x ∷ xs) rest = with_sizes (record c { sizes = c.sizes ++ x ∷ [] }) xs rest ∙ ap (λ (ys : List SizeOfLine). with_lines (record c { sizes = ys }) rest) (append_assoc c.sizes (x ∷ []) xs)
+
+with_primaries : (c : PlainSaid) (xs : List ℕ) (rest : List PlainLine) → with_lines c (map Primary xs ++ rest) ≡ with_lines (record c { primaries = c.primaries ++ xs }) rest
+with_primaries c [] rest = ap (λ (ys : List ℕ). with_lines (record c { primaries = ys }) rest) (sym (append-nil c.primaries))
+with_primaries c (x ∷ xs) rest =
+    with_primaries (record c { primaries = c.primaries ++ x ∷ [] }) xs rest ∙ ap (λ (ys : List ℕ). with_lines (record c { primaries = ys }) rest) (append_assoc c.primaries (x ∷ []) xs)
 
 with_shells : (c : PlainSaid) (xs : List ShellLine) (rest : List PlainLine) → with_lines c (map Shell xs ++ rest) ≡ with_lines (record c { shells = c.shells ++ xs }) rest
 with_shells c [] rest = ap (λ (ys : List ShellLine). with_lines (record c { shells = ys }) rest) (sym (append-nil c.shells))
@@ -130,7 +138,8 @@ with_cells c (x ∷ xs) rest = with_cells (record c { cells = c.cells ++ x ∷ [
 
 lines_together : (c : PlainSaid) → with_lines nothing_said (lines_of c) ≡ c
 lines_together c =
-    with_sizes (record c { sizes = []; shells = []; boxes = []; cells = [] }) c.sizes (shell_lines c)
+    with_sizes (record c { sizes = []; primaries = []; shells = []; boxes = []; cells = [] }) c.sizes (primary_lines c)
+    ∙ with_primaries (record c { primaries = []; shells = []; boxes = []; cells = [] }) c.primaries (shell_lines c)
     ∙ with_shells (record c { shells = []; boxes = []; cells = [] }) c.shells (box_lines c)
     ∙ with_boxes (record c { boxes = []; cells = [] }) c.boxes (cell_lines c)
     ∙ with_cells (record c { cells = [] }) c.cells last_line
@@ -160,6 +169,7 @@ record AreFitting (v : CertFormat) (c : PlainSaid) : Type 0 where
   threshold : c.threshold ≤ MAX_THRESHOLD
   objects : c.objects ≤ most_objects_in v
   sizes : All (λ s. FitsLine v (Size s)) c.sizes
+  primaries : All (λ object. FitsLine v (Primary object)) c.primaries
   shells : All (FitsShell (most_objects_in v)) c.shells
   boxes : All (λ b. FitsLine v (Box b)) c.boxes
   cells : All (FitsCell (most_objects_in v)) c.cells
@@ -181,6 +191,12 @@ shells_in_order v c r fits open_end ends cells boxes follows =
     more_lines v Shell rank.Shell c.shells (box_lines c) (Some r) (λ x. refl) fits.shells refl refl follows open_end
     (boxes_in_order v c r fits open_end ends cells boxes) (boxes_in_order v c rank.Shell fits refl refl refl refl)
 
+primaries_in_order : (v : CertFormat) (c : PlainSaid) (r : Rank) → AreFitting v c → has_ended (Some r) ≡ false → may_follow rank.End (Some r) ≡ true → may_follow rank.Cell (Some r) ≡ true
+    → may_follow rank.Box (Some r) ≡ true → may_follow rank.Shell (Some r) ≡ true → may_follow rank.Primary (Some r) ≡ true → AreInOrder v (Some r) (primary_lines c)
+primaries_in_order v c r fits open_end ends cells boxes shells follows =
+    more_lines v Primary rank.Primary c.primaries (shell_lines c) (Some r) (λ x. refl) fits.primaries refl refl follows open_end
+    (shells_in_order v c r fits open_end ends cells boxes shells) (shells_in_order v c rank.Primary fits refl refl refl refl refl)
+
 lines_in_order : (v : CertFormat) (c : PlainSaid) → AreFitting v c → AreInOrder v None (lines_of c)
 lines_in_order v c fits = (
   refl,
@@ -198,8 +214,8 @@ lines_in_order v c fits = (
         refl,
         refl,
         fits.objects,
-        more_lines v Size rank.Size c.sizes (shell_lines c) (Some rank.Objects) (λ x. refl) fits.sizes refl refl refl refl
-            (shells_in_order v c rank.Objects fits refl refl refl refl refl) (shells_in_order v c rank.Size fits refl refl refl refl refl),
+        more_lines v Size rank.Size c.sizes (primary_lines c) (Some rank.Objects) (λ x. refl) fits.sizes refl refl refl refl
+            (primaries_in_order v c rank.Objects fits refl refl refl refl refl refl) (primaries_in_order v c rank.Size fits refl refl refl refl refl refl),
       ),
     ),
   ),
@@ -218,13 +234,14 @@ told_all v c =
     let e = told_kind v Cell c.cells last_line ∙ ap (λ (t : List ℕ). flat_map cell_text c.cells ++ t) (append-nil (row (codes "END") [])) in
     let d = told_kind v Box c.boxes (cell_lines c) ∙ ap (λ (t : List ℕ). flat_map (box_text_in v) c.boxes ++ t) e in
     let b = told_kind v Shell c.shells (box_lines c) ∙ ap (λ (t : List ℕ). flat_map shell_text c.shells ++ t) d in
-    let a = told_kind v Size c.sizes (shell_lines c) ∙ ap (λ (t : List ℕ). flat_map size_text c.sizes ++ t) b in
+    let p = told_kind v Primary c.primaries (shell_lines c) ∙ ap (λ (t : List ℕ). flat_map primary_text c.primaries ++ t) b in
+    let a = told_kind v Size c.sizes (primary_lines c) ∙ ap (λ (t : List ℕ). flat_map size_text c.sizes ++ t) p in
     ap (λ (t : List ℕ). told v Heading ++ (told v (Window c.first c.last) ++ (told v (Threshold c.threshold) ++ (told v (Objects c.objects) ++ t)))) a
     ∙ regroup (told v Heading) (told v (Window c.first c.last)) (told v (Threshold c.threshold)) (told v (Objects c.objects))
-    (flat_map size_text c.sizes) (flat_map shell_text c.shells) (flat_map (box_text_in v) c.boxes) (flat_map cell_text c.cells) (row (codes "END") [])
+    (flat_map size_text c.sizes) (flat_map primary_text c.primaries) (flat_map shell_text c.shells) (flat_map (box_text_in v) c.boxes) (flat_map cell_text c.cells) (row (codes "END") [])
   where
-    regroup : (p q r s t u x y z : List ℕ) → p ++ (q ++ (r ++ (s ++ (t ++ (u ++ (x ++ (y ++ z))))))) ≡ p ++ q ++ r ++ s ++ t ++ u ++ x ++ y ++ z
-    regroup p q r s t u x y z = simp append_assoc
+    regroup : (p q r s t u w x y z : List ℕ) → p ++ (q ++ (r ++ (s ++ (t ++ (u ++ (w ++ (x ++ (y ++ z)))))))) ≡ p ++ q ++ r ++ s ++ t ++ u ++ w ++ x ++ y ++ z
+    regroup p q r s t u w x y z = simp append_assoc
 
 -- the lines of what fits are read as it
 lines_said_again : (v : CertFormat) (c : PlainSaid) → AreFitting v c → lines_said v (text_in v c) ≡ Ok c
@@ -259,6 +276,7 @@ said_in_full c = record {
   threshold = c.threshold;
   objects = c.objects;
   sizes = c.sizes;
+  primaries = [];
   shells = c.shells;
   boxes = c.boxes;
   cells = c.cells;
@@ -283,14 +301,16 @@ full_fitting c fits = record {
   threshold = fits.threshold;
   objects = fits.objects;
   sizes = sizes_of_version c.version c.sizes c.boxes fits.version fits.sizes;
+  primaries = All-nil (λ (object : ℕ). FitsLine (Full c.version) (Primary object));
   shells = fits.shells;
   boxes = boxes_of_version c.version c.sizes c.boxes fits.version fits.boxes;
   cells = fits.cells;
 }
 
 full_again : (c : PlainCertificate) → Fits c → lines_said (Full c.version) (text_of c) ≡ Ok (said_in_full c)
-unfolding text_of
-full_again c fits = lines_said_again (Full c.version) (said_in_full c) (full_fitting c fits)
+full_again c fits =
+    ap (lines_said (Full c.version)) (sym (full_text c.version (said_in_full c) refl))
+    ∙ lines_said_again (Full c.version) (said_in_full c) (full_fitting c fits)
 
 pub reading_again : (c : PlainCertificate) → Fits c → reading (text_of c) ≡ Ok c
 unfolding reading
@@ -301,7 +321,17 @@ reading_again c fits =
 -- ---- in brief
 
 abbrev said_in_brief : PlainBrief → PlainSaid
-said_in_brief c = record { first = c.first; last = c.last; threshold = c.threshold; objects = c.objects; sizes = c.sizes; shells = c.shells; boxes = []; cells = c.cells }
+said_in_brief c = record {
+  first = c.first;
+  last = c.last;
+  threshold = c.threshold;
+  objects = c.objects;
+  sizes = c.sizes;
+  primaries = c.primaries;
+  shells = c.shells;
+  boxes = [];
+  cells = c.cells;
+}
 
 brief_fitting : (c : PlainBrief) → FitsInBrief c → AreFitting Brief (said_in_brief c)
 brief_fitting c fits = record {
@@ -311,6 +341,7 @@ brief_fitting c fits = record {
   threshold = fits.threshold;
   objects = fits.objects;
   sizes = fits.sizes;
+  primaries = fits.primaries;
   shells = fits.shells;
   boxes = All-nil (λ (b : PlainBoxLine). FitsLine Brief (Box b));
   cells = fits.cells;

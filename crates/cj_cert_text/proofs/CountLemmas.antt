@@ -11,7 +11,7 @@ use Rattle.cj_brief.specs.Certificates as brief
 use Rattle.cj_brief.specs.Certificates.{PlainBrief}
 use Rattle.cj_formats.specs.declared.cert_format.CertFormat.TheVariants.{Brief}
 use Rattle.cj_kvn.specs.Entries.{line_of_words}
-use Rattle.cj_cert_text.specs.Texts.{row, row_ended, size_text, shell_row, shell_text, box_text, cell_text, head_text, first_lines_in, text_of, brief_text}
+use Rattle.cj_cert_text.specs.Texts.{row, row_ended, size_text, primary_text, shell_row, shell_text, box_text, cell_text, head_text, first_lines_in, text_of, brief_text}
 use Rattle.cj_cert_text.proofs.LineLemmas.{word_of}
 
 line_some : (words : List (List ℕ)) → 1 ≤ length (line_of_words words)
@@ -59,18 +59,21 @@ pub brief_lines_within : (c : PlainBrief) → brief.line_count c ≤ length (bri
 unfolding brief_text
 brief_lines_within c =
     let sizes = flat_map size_text c.sizes in
+    let primaries = flat_map primary_text c.primaries in
     let shells = flat_map shell_text c.shells in
     let cells = flat_map cell_text c.cells in
     let head = first_lines_in Brief c.first c.last c.threshold c.objects in
     omega (
       arith,
       many size_text (λ s. row_some _ _) c.sizes,
+      many primary_text (λ object. row_some _ _) c.primaries,
       many shell_text (λ s. shell_some s.object s.shell) c.shells,
       many cell_text (λ s. ended_some _ _ _) c.cells,
       length-append head sizes,
-      length-append (head ++ sizes) shells,
-      length-append (head ++ sizes ++ shells) cells,
-      length-append (head ++ sizes ++ shells ++ cells) (row (codes "END") []),
+      length-append (head ++ sizes) primaries,
+      length-append (head ++ sizes ++ primaries) shells,
+      length-append (head ++ sizes ++ primaries ++ shells) cells,
+      length-append (head ++ sizes ++ primaries ++ shells ++ cells) (row (codes "END") []),
     )
 
 -- ---- a line is no single byte
@@ -81,6 +84,7 @@ word_long rank.Window = omega arith
 word_long rank.Threshold = omega arith
 word_long rank.Objects = omega arith
 word_long rank.Size = omega arith
+word_long rank.Primary = omega arith
 word_long rank.Shell = omega arith
 word_long rank.Box = omega arith
 word_long rank.Cell = omega arith

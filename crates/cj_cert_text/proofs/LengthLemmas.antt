@@ -24,7 +24,7 @@ use Rattle.cj_cert.specs.Certificates.{PlainBoxLine, PlainCertificate}
 use Rattle.cj_cert_text.specs.Fits.{Fits, FitsBox, FitsCell, FitsInBrief, FitsSize, IsOfVersion}
 use Rattle.cj_cert_text.specs.Lines.{Box, Cell, Objects, Threshold, Window}
 use Rattle.cj_cert_text.specs.Texts.{box_text, brief_text, cell_text, ends, first_lines_in, head_text, kind_word, number, row, row_ended}
-use Rattle.cj_cert_text.specs.Texts.{shell_row, shell_text, size_text, slots, spaced_numbers, text_of}
+use Rattle.cj_cert_text.specs.Texts.{primary_text, shell_row, shell_text, size_text, slots, spaced_numbers, text_of}
 use Rattle.cj_cert_text.proofs.RowLemmas.{join-ended}
 use Rattle.cj_kvn.proofs.TextLemmas.{join-spaced}
 use Rattle.cj_cert_text.proofs.AgainLemmas.{numbers_small}
@@ -243,6 +243,9 @@ size_in_brief s fits =
       numbers_length size (omega (arith, fits.size), tt),
     )
 
+primary_in_brief : (object : ℕ) → object < most_objects_in Brief → length (primary_text object) ≤ 14
+primary_in_brief object few = omega (arith, row_length (codes "PRIMARY") (number object ∷ []), object_in_brief object [] few)
+
 shell_in_brief : (object : ℕ) (shell : Option Radii) → object < most_objects_in Brief → IfSome shell (λ r. r.lo ≤ r.hi × r.hi ≤ MAX_RADIUS)
     → length (shell_row object shell) ≤ 56
 shell_in_brief object None few radii =
@@ -300,12 +303,13 @@ head_in_brief c fits =
     )
 
 -- how long the text of one is of so many objects and cells
-pub brief_length : (objects cells : ℕ) (c : PlainBrief) → FitsInBrief c → length c.sizes ≤ objects → length c.shells ≤ objects → length c.cells ≤ cells
-    → length (brief_text c) ≤ 204 + objects * 89 + cells * 53
+pub brief_length : (objects cells : ℕ) (c : PlainBrief) → FitsInBrief c → length c.sizes ≤ objects → length c.primaries ≤ objects → length c.shells ≤ objects
+    → length c.cells ≤ cells → length (brief_text c) ≤ 204 + objects * 103 + cells * 53
 unfolding brief_text
-brief_length objects cells c fits few_sizes few_shells few_cells =
+brief_length objects cells c fits few_sizes few_primaries few_shells few_cells =
     let head = first_lines_in Brief c.first c.last c.threshold c.objects in
     let sizes = flat_map size_text c.sizes in
+    let primaries = flat_map primary_text c.primaries in
     let shells = flat_map shell_text c.shells in
     let told = flat_map cell_text c.cells in
     let each_shell : All (λ s. length (shell_text s) ≤ 56) c.shells = λ k d below.
@@ -313,15 +317,18 @@ brief_length objects cells c fits few_sizes few_shells few_cells =
     omega (
       arith,
       few_sizes,
+      few_primaries,
       few_shells,
       few_cells,
       head_in_brief c fits,
       parts_length size_text 33 c.sizes (λ k d below. size_in_brief (get_or c.sizes k d) (fits.sizes k d below)),
+      parts_length primary_text 14 c.primaries (λ k d below. primary_in_brief (get_or c.primaries k d) (fits.primaries k d below)),
       parts_length shell_text 56 c.shells each_shell,
       parts_length cell_text 53 c.cells (λ k d below. cell_in_brief (get_or c.cells k d) (fits.cells k d below)),
       row_length (codes "END") [],
       length-append head sizes,
-      length-append (head ++ sizes) shells,
-      length-append (head ++ sizes ++ shells) told,
-      length-append (head ++ sizes ++ shells ++ told) (row (codes "END") []),
+      length-append (head ++ sizes) primaries,
+      length-append (head ++ sizes ++ primaries) shells,
+      length-append (head ++ sizes ++ primaries ++ shells) told,
+      length-append (head ++ sizes ++ primaries ++ shells ++ told) (row (codes "END") []),
     )

@@ -24,7 +24,7 @@ use Rattle.cj_cert_text.specs.declared.rank.Rank.TheVariants as rank
 use Rattle.cj_cert.specs.Certificates.{PlainBoxLine}
 use Rattle.cj_cert_text.specs.Fits.{FitsSize, FitsShell, FitsBox, FitsCell}
 use Rattle.cj_cert_text.specs.Lines as spec
-use Rattle.cj_cert_text.specs.Lines.{PlainLine, Heading, Window, Threshold, Objects, Size, Shell, Box, Cell, End, rank_of, said_by, in_range, is_from, is_tick, is_object, is_slot}
+use Rattle.cj_cert_text.specs.Lines.{PlainLine, Heading, Window, Threshold, Objects, Size, Primary, Shell, Box, Cell, End, rank_of, said_by, in_range, is_from, is_tick, is_object, is_slot}
 use Rattle.cj_case.specs.CaseLimits.{MAX_SIZE}
 use Rattle.cj_cert_text.specs.Lines.{is_radius, is_coordinate, is_reach, object_of, MAX_THRESHOLD}
 use Rattle.cj_cert_text.specs.Ranks.{rank_of_word}
@@ -39,6 +39,7 @@ word_of rank.Window = codes "WINDOW"
 word_of rank.Threshold = codes "THRESHOLD"
 word_of rank.Objects = codes "OBJECTS"
 word_of rank.Size = codes "SIZE"
+word_of rank.Primary = codes "PRIMARY"
 word_of rank.Shell = codes "SHELL"
 word_of rank.Box = codes "BOX"
 word_of rank.Cell = codes "CELL"
@@ -51,6 +52,7 @@ word_ranks rank.Window = refl
 word_ranks rank.Threshold = refl
 word_ranks rank.Objects = refl
 word_ranks rank.Size = refl
+word_ranks rank.Primary = refl
 word_ranks rank.Shell = refl
 word_ranks rank.Box = refl
 word_ranks rank.Cell = refl
@@ -71,6 +73,7 @@ rank_word w s h =
     one_of w rank.Box s _ (
     one_of w rank.Shell s _ (
     one_of w rank.Size s _ (
+    one_of w rank.Primary s _ (
     one_of w rank.Heading s _ (
     one_of w rank.Window s _ (
     one_of w rank.Threshold s _ (
@@ -78,6 +81,7 @@ rank_word w s h =
     ) (bytes_eq w (codes "THRESHOLD")) refl
     ) (bytes_eq w (codes "WINDOW")) refl
     ) (bytes_eq w (codes "CONJ-CERT")) refl
+    ) (bytes_eq w (codes "PRIMARY")) refl
     ) (bytes_eq w (codes "SIZE")) refl
     ) (bytes_eq w (codes "SHELL")) refl
     ) (bytes_eq w (codes "BOX")) refl
@@ -100,6 +104,7 @@ numbers_of f (Window first last) = pos first ∷ pos last ∷ []
 numbers_of f (Threshold threshold) = pos threshold ∷ []
 numbers_of f (Objects count) = pos count ∷ []
 numbers_of f (Size s) = number s.object ∷ pos s.size ∷ []
+numbers_of f (Primary object) = number object ∷ []
 numbers_of f (Shell s) = shell_numbers s.object s.shell
 numbers_of f (Box b) = number b.object ∷ (slots_in f b ++ ends b.area)
 numbers_of f (Cell s) = number s.a ∷ number s.b ∷ pos s.first ∷ pos s.last ∷ []
@@ -115,6 +120,7 @@ others_of (Window first last) = []
 others_of (Threshold threshold) = []
 others_of (Objects count) = []
 others_of (Size s) = []
+others_of (Primary object) = []
 others_of (Shell s) = shell_others s.shell
 others_of (Box b) = []
 others_of (Cell s) = kind_word s.kind ∷ []
@@ -130,6 +136,11 @@ FitsSizeIn (Full One) s = ⊥
 FitsSizeIn (Full Two) s = FitsSize (most_objects_in (Full Two)) s
 FitsSizeIn Brief s = FitsSize (most_objects_in Brief) s
 
+-- primaries are told in brief alone
+abbrev pub FitsPrimaryIn : CertFormat → ℕ → Type 0
+FitsPrimaryIn (Full version) object = ⊥
+FitsPrimaryIn Brief object = object < most_objects_in Brief
+
 abbrev pub FitsSlots : CertFormat → PlainBoxLine → Type 0
 FitsSlots (Full One) b = b.first ≡ b.last
 FitsSlots (Full Two) b = Unit {0}
@@ -142,6 +153,7 @@ FitsLine f (Window first last) = IsTick first × IsTick last
 FitsLine f (Threshold threshold) = (1 ≤ threshold) × (threshold ≤ MAX_THRESHOLD)
 FitsLine f (Objects count) = count ≤ most_objects_in f
 FitsLine f (Size s) = FitsSizeIn f s
+FitsLine f (Primary object) = FitsPrimaryIn f object
 FitsLine f (Shell s) = FitsShell (most_objects_in f) s
 FitsLine f (Box b) = FitsBox (most_objects_in f) b × FitsSlots f b
 FitsLine f (Cell s) = FitsCell (most_objects_in f) s
@@ -297,6 +309,18 @@ size_said : (f : CertFormat) (numbers : List ℤ) (l : PlainLine) → spec.size 
 size_said (Full One) numbers l h = absurd cc
 size_said (Full Two) numbers l h = size_of_said (Full Two) (λ s fits. fits) numbers l h
 size_said Brief numbers l h = size_of_said Brief (λ s fits. fits) numbers l h
+
+primary_of_said : (numbers : List ℤ) (l : PlainLine) → spec.primary_of numbers ≡ Ok l → IsSaid Brief rank.Primary numbers [] l
+primary_of_said [] l h = absurd cc
+primary_of_said (i ∷ []) l h =
+    let r = ranged (is_object Brief i) (Primary (object_of i)) l h in
+    let object = object_again Brief i r.0 in
+    subst (IsSaid Brief rank.Primary (i ∷ []) []) r.1 (record { rank = refl; its_numbers = ap (λ (x : ℤ). x ∷ []) (sym object.0); its_others = refl; fits = object.1 })
+primary_of_said (i ∷ z ∷ zs) l h = absurd cc
+
+primary_said : (f : CertFormat) (numbers : List ℤ) (l : PlainLine) → spec.primary f numbers ≡ Ok l → IsSaid f rank.Primary numbers [] l
+primary_said (Full version) numbers l h = absurd cc
+primary_said Brief numbers l h = primary_of_said numbers l h
 
 radii_said : (f : CertFormat) (numbers : List ℤ) (l : PlainLine) → spec.shell f numbers ≡ Ok l → IsSaid f rank.Shell numbers [] l
 radii_said f [] l h = absurd cc
@@ -519,6 +543,7 @@ what_is_said f rank.Window numbers words l h = alone_said f rank.Window numbers 
 what_is_said f rank.Threshold numbers words l h = alone_said f rank.Threshold numbers words (spec.threshold numbers) l (threshold_said f numbers l) h
 what_is_said f rank.Objects numbers words l h = alone_said f rank.Objects numbers words (spec.objects f numbers) l (objects_said f numbers l) h
 what_is_said f rank.Size numbers words l h = alone_said f rank.Size numbers words (spec.size f numbers) l (size_said f numbers l) h
+what_is_said f rank.Primary numbers words l h = alone_said f rank.Primary numbers words (spec.primary f numbers) l (primary_said f numbers l) h
 what_is_said f rank.Shell numbers words l h = shell_said f numbers words l h
 what_is_said f rank.Box numbers words l h = alone_said f rank.Box numbers words (spec.box f numbers) l (box_said f numbers l) h
 what_is_said f rank.Cell numbers words l h = cell_said f numbers words l h

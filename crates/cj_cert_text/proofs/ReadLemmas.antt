@@ -25,14 +25,14 @@ use Rattle.cj_cert_text.specs.declared.rank.Rank.TheVariants as rank
 use Rattle.cj_cert.specs.Certificates.{PlainBoxLine, PlainCertificate}
 use Rattle.cj_brief.specs.Certificates.{PlainBrief}
 use Rattle.cj_cert_text.specs.Fits.{Fits, FitsInBrief, FitsSize, FitsShell, FitsBox, FitsCell, IsOfVersion}
-use Rattle.cj_cert_text.specs.Lines.{PlainLine, Heading, Window, Threshold, Objects, Size, Shell, Box, Cell, End, rank_of, said, said_in, line_said, where_it_may_stand, MAX_THRESHOLD}
+use Rattle.cj_cert_text.specs.Lines.{PlainLine, Heading, Window, Threshold, Objects, Size, Primary, Shell, Box, Cell, End, rank_of, said, said_in, line_said, where_it_may_stand, MAX_THRESHOLD}
 use Rattle.cj_cert_text.specs.Numbers.{numbers_in, others_in}
 use Rattle.cj_cert_text.specs.Ranks.{has_ended, may_follow, place, rank_of_word}
 use Rattle.cj_cert_text.specs.Reading.{Fault, PlainSaid, and_then, at_line, behind_lines, ends_at, in_brief, in_version, lines_said, nothing_said, reading, reading_in_brief, reads_on, version_of, with_line}
 use Rattle.cj_kvn.specs.Entries.{line_of_words}
-use Rattle.cj_cert_text.specs.Texts.{row, row_ended, number, ends, size_text, shell_text, shell_row, cell_text, first_lines_in, kind_word, text_of, brief_text}
+use Rattle.cj_cert_text.specs.Texts.{row, row_ended, number, ends, size_text, primary_text, shell_text, shell_row, cell_text, first_lines_in, kind_word, text_of, brief_text}
 use Rattle.cj_cert_text.proofs.AgainLemmas.{numbers_small}
-use Rattle.cj_cert_text.proofs.LineLemmas.{FitsLine, FitsSizeIn, FitsSlots, IsSaid, numbers_of, slots_in, rank_word, tested, what_is_said, word_of, words_of}
+use Rattle.cj_cert_text.proofs.LineLemmas.{FitsLine, FitsPrimaryIn, FitsSizeIn, FitsSlots, IsSaid, numbers_of, slots_in, rank_word, tested, what_is_said, word_of, words_of}
 use Rattle.cj_cert_text.proofs.WordLemmas.{AreSmall, texts, words_written}
 
 -- ---- one line
@@ -92,6 +92,7 @@ told v (Window first last) = row (codes "WINDOW") (pos first ∷ pos last ∷ []
 told v (Threshold threshold) = row (codes "THRESHOLD") (pos threshold ∷ [])
 told v (Objects count) = row (codes "OBJECTS") (pos count ∷ [])
 told v (Size s) = size_text s
+told v (Primary object) = primary_text object
 told v (Shell s) = shell_text s
 told v (Box b) = box_text_in v b
 told v (Cell s) = cell_text s
@@ -115,6 +116,7 @@ text_is_told v (Window first last) = row_is (codes "WINDOW") (numbers_of v (Wind
 text_is_told v (Threshold threshold) = row_is (codes "THRESHOLD") (numbers_of v (Threshold threshold))
 text_is_told v (Objects count) = row_is (codes "OBJECTS") (numbers_of v (Objects count))
 text_is_told v (Size s) = row_is (codes "SIZE") (numbers_of v (Size s))
+text_is_told v (Primary object) = row_is (codes "PRIMARY") (numbers_of v (Primary object))
 text_is_told v (Shell s) = shell_is v s.object s.shell
 text_is_told v (Box b) = row_is (codes "BOX") (numbers_of v (Box b))
 text_is_told v (Cell s) = ended_is (codes "CELL") (numbers_of v (Cell s)) (kind_word s.kind)
@@ -122,14 +124,15 @@ text_is_told v End = row_is (codes "END") []
 
 -- ---- the text so far
 
-abbrev pub whole : List ℕ → CertFormat → List SizeOfLine → List ShellLine → List PlainBoxLine → List PlainLeaf → List ℕ
-whole head v sizes shells boxes cells = head ++ flat_map size_text sizes ++ flat_map shell_text shells ++ flat_map (box_text_in v) boxes ++ flat_map cell_text cells
+abbrev pub whole : List ℕ → CertFormat → List SizeOfLine → List ℕ → List ShellLine → List PlainBoxLine → List PlainLeaf → List ℕ
+whole head v sizes primaries shells boxes cells =
+    head ++ flat_map size_text sizes ++ flat_map primary_text primaries ++ flat_map shell_text shells ++ flat_map (box_text_in v) boxes ++ flat_map cell_text cells
 
 abbrev pub head_in : CertFormat → PlainSaid → List ℕ
 head_in v c = first_lines_in v c.first c.last c.threshold c.objects
 
 abbrev pub body : CertFormat → PlainSaid → List ℕ
-body v c = whole (head_in v c) v c.sizes c.shells c.boxes c.cells
+body v c = whole (head_in v c) v c.sizes c.primaries c.shells c.boxes c.cells
 
 -- that of all lines
 abbrev pub text_in : CertFormat → PlainSaid → List ℕ
@@ -143,6 +146,7 @@ text_to v (Some rank.Window) c = told v Heading ++ told v (Window c.first c.last
 text_to v (Some rank.Threshold) c = told v Heading ++ told v (Window c.first c.last) ++ told v (Threshold c.threshold)
 text_to v (Some rank.Objects) c = body v c
 text_to v (Some rank.Size) c = body v c
+text_to v (Some rank.Primary) c = body v c
 text_to v (Some rank.Shell) c = body v c
 text_to v (Some rank.Box) c = body v c
 text_to v (Some rank.Cell) c = body v c
@@ -154,19 +158,21 @@ last_place None = 0
 last_place (Some r) = place r
 
 -- up to this place no line of a later kind is told
-record NoneBehind (last : ℕ) (sizes : List SizeOfLine) (shells : List ShellLine) (boxes : List PlainBoxLine) (cells : List PlainLeaf) : Type 0 where
+record NoneBehind (last : ℕ) (sizes : List SizeOfLine) (primaries : List ℕ) (shells : List ShellLine) (boxes : List PlainBoxLine) (cells : List PlainLeaf) : Type 0 where
   no_sizes : last < 5 → sizes ≡ []
-  no_shells : last < 6 → shells ≡ []
-  no_boxes : last < 7 → boxes ≡ []
-  no_cells : last < 8 → cells ≡ []
+  no_primaries : last < 6 → primaries ≡ []
+  no_shells : last < 7 → shells ≡ []
+  no_boxes : last < 8 → boxes ≡ []
+  no_cells : last < 9 → cells ≡ []
 
 abbrev NoLater : Option Rank → PlainSaid → Type 0
-NoLater before c = NoneBehind (last_place before) c.sizes c.shells c.boxes c.cells
+NoLater before c = NoneBehind (last_place before) c.sizes c.primaries c.shells c.boxes c.cells
 
-further : (m n : ℕ) (ss : List SizeOfLine) (hs : List ShellLine) (bs : List PlainBoxLine) (cs : List PlainLeaf) → m ≤ n
-    → NoneBehind m ss hs bs cs → NoneBehind n ss hs bs cs
-further m n ss hs bs cs le none = record {
+further : (m n : ℕ) (ss : List SizeOfLine) (ps : List ℕ) (hs : List ShellLine) (bs : List PlainBoxLine) (cs : List PlainLeaf) → m ≤ n
+    → NoneBehind m ss ps hs bs cs → NoneBehind n ss ps hs bs cs
+further m n ss ps hs bs cs le none = record {
   no_sizes = λ lt. none.no_sizes (omega arith);
+  no_primaries = λ lt. none.no_primaries (omega arith);
   no_shells = λ lt. none.no_shells (omega arith);
   no_boxes = λ lt. none.no_boxes (omega arith);
   no_cells = λ lt. none.no_cells (omega arith);
@@ -199,52 +205,68 @@ in_order r (Some b) f = go (nat_lt (place b) 4) refl f
 flat_more : {A : Type 0} (f : A → List ℕ) (xs : List A) (x : A) → flat_map f (xs ++ x ∷ []) ≡ flat_map f xs ++ f x
 flat_more f xs x = flat_map-append f xs (x ∷ []) ∙ ap (λ (t : List ℕ). flat_map f xs ++ t) (append-nil (f x))
 
-regroup1 : (h a t : List ℕ) → (h ++ a ++ [] ++ [] ++ []) ++ t ≡ h ++ (a ++ t) ++ [] ++ [] ++ []
+regroup1 : (h a t : List ℕ) → (h ++ a ++ [] ++ [] ++ [] ++ []) ++ t ≡ h ++ (a ++ t) ++ [] ++ [] ++ [] ++ []
 regroup1 h a t = simp (append_assoc, append-nil)
 
-regroup2 : (h a b t : List ℕ) → (h ++ a ++ b ++ [] ++ []) ++ t ≡ h ++ a ++ (b ++ t) ++ [] ++ []
+regroup2 : (h a b t : List ℕ) → (h ++ a ++ b ++ [] ++ [] ++ []) ++ t ≡ h ++ a ++ (b ++ t) ++ [] ++ [] ++ []
 regroup2 h a b t = simp (append_assoc, append-nil)
 
-regroup3 : (h a b d t : List ℕ) → (h ++ a ++ b ++ d ++ []) ++ t ≡ h ++ a ++ b ++ (d ++ t) ++ []
+regroup3 : (h a b d t : List ℕ) → (h ++ a ++ b ++ d ++ [] ++ []) ++ t ≡ h ++ a ++ b ++ (d ++ t) ++ [] ++ []
 regroup3 h a b d t = simp (append_assoc, append-nil)
 
-regroup4 : (h a b d e t : List ℕ) → (h ++ a ++ b ++ d ++ e) ++ t ≡ h ++ a ++ b ++ d ++ (e ++ t)
-regroup4 h a b d e t = simp append_assoc
+regroup4 : (h a b d e t : List ℕ) → (h ++ a ++ b ++ d ++ e ++ []) ++ t ≡ h ++ a ++ b ++ d ++ (e ++ t) ++ []
+regroup4 h a b d e t = simp (append_assoc, append-nil)
 
-size_more : (h : List ℕ) (v : CertFormat) (ss : List SizeOfLine) (s : SizeOfLine) (hs : List ShellLine) (bs : List PlainBoxLine) (cs : List PlainLeaf) → hs ≡ [] → bs ≡ [] → cs ≡ []
-    → whole h v ss hs bs cs ++ size_text s ≡ whole h v (ss ++ s ∷ []) hs bs cs
-size_more h v ss s [] [] [] eh eb ec = regroup1 h (flat_map size_text ss) (size_text s) ∙ ap (λ (t : List ℕ). h ++ t ++ [] ++ [] ++ []) (sym (flat_more size_text ss s))
-size_more h v ss s [] [] (c ∷ cs) eh eb ec = absurd cc
-size_more h v ss s [] (b ∷ bs) cs eh eb ec = absurd cc
-size_more h v ss s (x ∷ hs) bs cs eh eb ec = absurd cc
+regroup5 : (h a b d e f t : List ℕ) → (h ++ a ++ b ++ d ++ e ++ f) ++ t ≡ h ++ a ++ b ++ d ++ e ++ (f ++ t)
+regroup5 h a b d e f t = simp append_assoc
 
-shell_more : (h : List ℕ) (v : CertFormat) (ss : List SizeOfLine) (hs : List ShellLine) (s : ShellLine) (bs : List PlainBoxLine) (cs : List PlainLeaf) → bs ≡ [] → cs ≡ []
-    → whole h v ss hs bs cs ++ shell_text s ≡ whole h v ss (hs ++ s ∷ []) bs cs
-shell_more h v ss hs s [] [] eb ec =
-    regroup2 h (flat_map size_text ss) (flat_map shell_text hs) (shell_text s) ∙ ap (λ (t : List ℕ). h ++ flat_map size_text ss ++ t ++ [] ++ []) (sym (flat_more shell_text hs s))
-shell_more h v ss hs s [] (c ∷ cs) eb ec = absurd cc
-shell_more h v ss hs s (b ∷ bs) cs eb ec = absurd cc
+size_more : (h : List ℕ) (v : CertFormat) (ss : List SizeOfLine) (s : SizeOfLine) (ps : List ℕ) (hs : List ShellLine) (bs : List PlainBoxLine) (cs : List PlainLeaf)
+    → ps ≡ [] → hs ≡ [] → bs ≡ [] → cs ≡ [] → whole h v ss ps hs bs cs ++ size_text s ≡ whole h v (ss ++ s ∷ []) ps hs bs cs
+size_more h v ss s [] [] [] [] ep eh eb ec =
+    regroup1 h (flat_map size_text ss) (size_text s) ∙ ap (λ (t : List ℕ). h ++ t ++ [] ++ [] ++ [] ++ []) (sym (flat_more size_text ss s))
+size_more h v ss s [] [] [] (c ∷ cs) ep eh eb ec = absurd cc
+size_more h v ss s [] [] (b ∷ bs) cs ep eh eb ec = absurd cc
+size_more h v ss s [] (x ∷ hs) bs cs ep eh eb ec = absurd cc
+size_more h v ss s (p ∷ ps) hs bs cs ep eh eb ec = absurd cc
 
-box_more : (h : List ℕ) (v : CertFormat) (ss : List SizeOfLine) (hs : List ShellLine) (bs : List PlainBoxLine) (b : PlainBoxLine) (cs : List PlainLeaf) → cs ≡ []
-    → whole h v ss hs bs cs ++ box_text_in v b ≡ whole h v ss hs (bs ++ b ∷ []) cs
-box_more h v ss hs bs b [] ec =
-    regroup3 h (flat_map size_text ss) (flat_map shell_text hs) (flat_map (box_text_in v) bs) (box_text_in v b)
-    ∙ ap (λ (t : List ℕ). h ++ flat_map size_text ss ++ flat_map shell_text hs ++ t ++ []) (sym (flat_more (box_text_in v) bs b))
-box_more h v ss hs bs b (c ∷ cs) ec = absurd cc
+primary_more : (h : List ℕ) (v : CertFormat) (ss : List SizeOfLine) (ps : List ℕ) (p : ℕ) (hs : List ShellLine) (bs : List PlainBoxLine) (cs : List PlainLeaf)
+    → hs ≡ [] → bs ≡ [] → cs ≡ [] → whole h v ss ps hs bs cs ++ primary_text p ≡ whole h v ss (ps ++ p ∷ []) hs bs cs
+primary_more h v ss ps p [] [] [] eh eb ec =
+    regroup2 h (flat_map size_text ss) (flat_map primary_text ps) (primary_text p)
+    ∙ ap (λ (t : List ℕ). h ++ flat_map size_text ss ++ t ++ [] ++ [] ++ []) (sym (flat_more primary_text ps p))
+primary_more h v ss ps p [] [] (c ∷ cs) eh eb ec = absurd cc
+primary_more h v ss ps p [] (b ∷ bs) cs eh eb ec = absurd cc
+primary_more h v ss ps p (x ∷ hs) bs cs eh eb ec = absurd cc
 
-cell_more : (h : List ℕ) (v : CertFormat) (ss : List SizeOfLine) (hs : List ShellLine) (bs : List PlainBoxLine) (cs : List PlainLeaf) (c : PlainLeaf)
-    → whole h v ss hs bs cs ++ cell_text c ≡ whole h v ss hs bs (cs ++ c ∷ [])
-cell_more h v ss hs bs cs c =
-    regroup4 h (flat_map size_text ss) (flat_map shell_text hs) (flat_map (box_text_in v) bs) (flat_map cell_text cs) (cell_text c)
-    ∙ ap (λ (t : List ℕ). h ++ flat_map size_text ss ++ flat_map shell_text hs ++ flat_map (box_text_in v) bs ++ t) (sym (flat_more cell_text cs c))
+shell_more : (h : List ℕ) (v : CertFormat) (ss : List SizeOfLine) (ps : List ℕ) (hs : List ShellLine) (s : ShellLine) (bs : List PlainBoxLine) (cs : List PlainLeaf) → bs ≡ [] → cs ≡ []
+    → whole h v ss ps hs bs cs ++ shell_text s ≡ whole h v ss ps (hs ++ s ∷ []) bs cs
+shell_more h v ss ps hs s [] [] eb ec =
+    regroup3 h (flat_map size_text ss) (flat_map primary_text ps) (flat_map shell_text hs) (shell_text s)
+    ∙ ap (λ (t : List ℕ). h ++ flat_map size_text ss ++ flat_map primary_text ps ++ t ++ [] ++ []) (sym (flat_more shell_text hs s))
+shell_more h v ss ps hs s [] (c ∷ cs) eb ec = absurd cc
+shell_more h v ss ps hs s (b ∷ bs) cs eb ec = absurd cc
 
-objects_more : (a b d e : List ℕ) (v : CertFormat) (ss : List SizeOfLine) (hs : List ShellLine) (bs : List PlainBoxLine) (cs : List PlainLeaf) → ss ≡ [] → hs ≡ [] → bs ≡ [] → cs ≡ []
-    → a ++ b ++ d ++ e ≡ whole (a ++ b ++ d ++ e) v ss hs bs cs
-objects_more a b d e v [] [] [] [] es eh eb ec = simp (append_assoc, append-nil)
-objects_more a b d e v [] [] [] (c ∷ cs) es eh eb ec = absurd cc
-objects_more a b d e v [] [] (x ∷ bs) cs es eh eb ec = absurd cc
-objects_more a b d e v [] (x ∷ hs) bs cs es eh eb ec = absurd cc
-objects_more a b d e v (s ∷ ss) hs bs cs es eh eb ec = absurd cc
+box_more : (h : List ℕ) (v : CertFormat) (ss : List SizeOfLine) (ps : List ℕ) (hs : List ShellLine) (bs : List PlainBoxLine) (b : PlainBoxLine) (cs : List PlainLeaf) → cs ≡ []
+    → whole h v ss ps hs bs cs ++ box_text_in v b ≡ whole h v ss ps hs (bs ++ b ∷ []) cs
+box_more h v ss ps hs bs b [] ec =
+    regroup4 h (flat_map size_text ss) (flat_map primary_text ps) (flat_map shell_text hs) (flat_map (box_text_in v) bs) (box_text_in v b)
+    ∙ ap (λ (t : List ℕ). h ++ flat_map size_text ss ++ flat_map primary_text ps ++ flat_map shell_text hs ++ t ++ []) (sym (flat_more (box_text_in v) bs b))
+box_more h v ss ps hs bs b (c ∷ cs) ec = absurd cc
+
+cell_more : (h : List ℕ) (v : CertFormat) (ss : List SizeOfLine) (ps : List ℕ) (hs : List ShellLine) (bs : List PlainBoxLine) (cs : List PlainLeaf) (c : PlainLeaf)
+    → whole h v ss ps hs bs cs ++ cell_text c ≡ whole h v ss ps hs bs (cs ++ c ∷ [])
+cell_more h v ss ps hs bs cs c =
+    regroup5 h (flat_map size_text ss) (flat_map primary_text ps) (flat_map shell_text hs) (flat_map (box_text_in v) bs) (flat_map cell_text cs) (cell_text c)
+    ∙ ap (λ (t : List ℕ). h ++ flat_map size_text ss ++ flat_map primary_text ps ++ flat_map shell_text hs ++ flat_map (box_text_in v) bs ++ t) (sym (flat_more cell_text cs c))
+
+objects_more : (a b d e : List ℕ) (v : CertFormat) (ss : List SizeOfLine) (ps : List ℕ) (hs : List ShellLine) (bs : List PlainBoxLine) (cs : List PlainLeaf)
+    → ss ≡ [] → ps ≡ [] → hs ≡ [] → bs ≡ [] → cs ≡ [] → a ++ b ++ d ++ e ≡ whole (a ++ b ++ d ++ e) v ss ps hs bs cs
+objects_more a b d e v [] [] [] [] [] es ep eh eb ec = simp (append_assoc, append-nil)
+objects_more a b d e v [] [] [] [] (c ∷ cs) es ep eh eb ec = absurd cc
+objects_more a b d e v [] [] [] (x ∷ bs) cs es ep eh eb ec = absurd cc
+objects_more a b d e v [] [] (x ∷ hs) bs cs es ep eh eb ec = absurd cc
+objects_more a b d e v [] (p ∷ ps) hs bs cs es ep eh eb ec = absurd cc
+objects_more a b d e v (s ∷ ss) ps hs bs cs es ep eh eb ec = absurd cc
 
 -- one more line
 record Goes (v : CertFormat) (before : Option Rank) (c : PlainSaid) (l : PlainLine) : Type 0 where
@@ -261,53 +283,92 @@ body_to v (Some rank.End) c low open_end = absurd cc
 body_to v (Some r) c low open_end = refl
 
 goes : (v : CertFormat) (before : Option Rank) (c : PlainSaid) (l : PlainLine) → NoLater before c → has_ended before ≡ false → may_follow (rank_of l) before ≡ true → Goes v before c l
-goes v None c Heading none e f = record { text = refl; later = further 0 1 _ _ _ _ (omega arith) none }
-goes v (Some rank.Heading) c (Window first last) none e f = record { text = refl; later = further 1 2 _ _ _ _ (omega arith) none }
-goes v (Some rank.Window) c (Threshold threshold) none e f = record { text = refl; later = further 2 3 _ _ _ _ (omega arith) none }
+goes v None c Heading none e f = record { text = refl; later = further 0 1 _ _ _ _ _ (omega arith) none }
+goes v (Some rank.Heading) c (Window first last) none e f = record { text = refl; later = further 1 2 _ _ _ _ _ (omega arith) none }
+goes v (Some rank.Window) c (Threshold threshold) none e f = record { text = refl; later = further 2 3 _ _ _ _ _ (omega arith) none }
 goes v (Some rank.Threshold) c (Objects count) none e f = record {
   text = objects_more (told v Heading) (told v (Window c.first c.last)) (told v (Threshold c.threshold)) (told v (Objects count))
-      v c.sizes c.shells c.boxes c.cells
-      (none.no_sizes (omega arith)) (none.no_shells (omega arith)) (none.no_boxes (omega arith)) (none.no_cells (omega arith));
-  later = further 3 4 _ _ _ _ (omega arith) none;
+      v c.sizes c.primaries c.shells c.boxes c.cells
+      (none.no_sizes (omega arith)) (none.no_primaries (omega arith)) (none.no_shells (omega arith)) (none.no_boxes (omega arith)) (none.no_cells (omega arith));
+  later = further 3 4 _ _ _ _ _ (omega arith) none;
 }
 goes v before c (Size s) none e f =
     let order = in_order rank.Size before f in
-    let on : NoneBehind 5 c.sizes c.shells c.boxes c.cells = further _ _ _ _ _ _ (order.no_later (omega arith)) none in
+    let on : NoneBehind 5 c.sizes c.primaries c.shells c.boxes c.cells = further _ _ _ _ _ _ _ (order.no_later (omega arith)) none in
     record {
       text = ap (λ (t : List ℕ). t ++ size_text s) (body_to v before c (order.in_lists (omega arith)) e)
-          ∙ size_more (head_in v c) v c.sizes s c.shells c.boxes c.cells
+          ∙ size_more (head_in v c) v c.sizes s c.primaries c.shells c.boxes c.cells
+          (on.no_primaries (omega arith)) (on.no_shells (omega arith)) (on.no_boxes (omega arith)) (on.no_cells (omega arith));
+      later = record {
+        no_sizes = λ lt. absurd (omega arith);
+        no_primaries = on.no_primaries;
+        no_shells = on.no_shells;
+        no_boxes = on.no_boxes;
+        no_cells = on.no_cells;
+      };
+    }
+goes v before c (Primary object) none e f =
+    let order = in_order rank.Primary before f in
+    let on : NoneBehind 6 c.sizes c.primaries c.shells c.boxes c.cells = further _ _ _ _ _ _ _ (order.no_later (omega arith)) none in
+    record {
+      text = ap (λ (t : List ℕ). t ++ primary_text object) (body_to v before c (order.in_lists (omega arith)) e)
+          ∙ primary_more (head_in v c) v c.sizes c.primaries object c.shells c.boxes c.cells
           (on.no_shells (omega arith)) (on.no_boxes (omega arith)) (on.no_cells (omega arith));
-      later = record { no_sizes = λ lt. absurd (omega arith); no_shells = on.no_shells; no_boxes = on.no_boxes; no_cells = on.no_cells };
+      later = record {
+        no_sizes = on.no_sizes;
+        no_primaries = λ lt. absurd (omega arith);
+        no_shells = on.no_shells;
+        no_boxes = on.no_boxes;
+        no_cells = on.no_cells;
+      };
     }
 goes v before c (Shell s) none e f =
     let order = in_order rank.Shell before f in
-    let on : NoneBehind 6 c.sizes c.shells c.boxes c.cells = further _ _ _ _ _ _ (order.no_later (omega arith)) none in
+    let on : NoneBehind 7 c.sizes c.primaries c.shells c.boxes c.cells = further _ _ _ _ _ _ _ (order.no_later (omega arith)) none in
     record {
       text = ap (λ (t : List ℕ). t ++ shell_text s) (body_to v before c (order.in_lists (omega arith)) e)
-          ∙ shell_more (head_in v c) v c.sizes c.shells s c.boxes c.cells (on.no_boxes (omega arith)) (on.no_cells (omega arith));
-      later = record { no_sizes = on.no_sizes; no_shells = λ lt. absurd (omega arith); no_boxes = on.no_boxes; no_cells = on.no_cells };
+          ∙ shell_more (head_in v c) v c.sizes c.primaries c.shells s c.boxes c.cells (on.no_boxes (omega arith)) (on.no_cells (omega arith));
+      later = record {
+        no_sizes = on.no_sizes;
+        no_primaries = on.no_primaries;
+        no_shells = λ lt. absurd (omega arith);
+        no_boxes = on.no_boxes;
+        no_cells = on.no_cells;
+      };
     }
 goes v before c (Box b) none e f =
     let order = in_order rank.Box before f in
-    let on : NoneBehind 7 c.sizes c.shells c.boxes c.cells = further _ _ _ _ _ _ (order.no_later (omega arith)) none in
+    let on : NoneBehind 8 c.sizes c.primaries c.shells c.boxes c.cells = further _ _ _ _ _ _ _ (order.no_later (omega arith)) none in
     record {
       text = ap (λ (t : List ℕ). t ++ box_text_in v b) (body_to v before c (order.in_lists (omega arith)) e)
-          ∙ box_more (head_in v c) v c.sizes c.shells c.boxes b c.cells (on.no_cells (omega arith));
-      later = record { no_sizes = on.no_sizes; no_shells = on.no_shells; no_boxes = λ lt. absurd (omega arith); no_cells = on.no_cells };
+          ∙ box_more (head_in v c) v c.sizes c.primaries c.shells c.boxes b c.cells (on.no_cells (omega arith));
+      later = record {
+        no_sizes = on.no_sizes;
+        no_primaries = on.no_primaries;
+        no_shells = on.no_shells;
+        no_boxes = λ lt. absurd (omega arith);
+        no_cells = on.no_cells;
+      };
     }
 goes v before c (Cell s) none e f =
     let order = in_order rank.Cell before f in
-    let on : NoneBehind 8 c.sizes c.shells c.boxes c.cells = further _ _ _ _ _ _ (order.no_later (omega arith)) none in
+    let on : NoneBehind 9 c.sizes c.primaries c.shells c.boxes c.cells = further _ _ _ _ _ _ _ (order.no_later (omega arith)) none in
     record {
       text = ap (λ (t : List ℕ). t ++ cell_text s) (body_to v before c (order.in_lists (omega arith)) e)
-          ∙ cell_more (head_in v c) v c.sizes c.shells c.boxes c.cells s;
-      later = record { no_sizes = on.no_sizes; no_shells = on.no_shells; no_boxes = on.no_boxes; no_cells = λ lt. absurd (omega arith) };
+          ∙ cell_more (head_in v c) v c.sizes c.primaries c.shells c.boxes c.cells s;
+      later = record {
+        no_sizes = on.no_sizes;
+        no_primaries = on.no_primaries;
+        no_shells = on.no_shells;
+        no_boxes = on.no_boxes;
+        no_cells = λ lt. absurd (omega arith);
+      };
     }
 goes v before c End none e f =
     let order = in_order rank.End before f in
     record {
       text = ap (λ (t : List ℕ). t ++ told v End) (body_to v before c (order.in_lists (omega arith)) e);
-      later = further _ _ _ _ _ _ (order.no_later (omega arith)) none;
+      later = further _ _ _ _ _ _ _ (order.no_later (omega arith)) none;
     }
 goes v before c l none e f = absurd cc
 
@@ -320,15 +381,16 @@ pub record HeadFits (v : CertFormat) (f l thr n : ℕ) : Type 0 where
   pub threshold : thr ≤ MAX_THRESHOLD
   pub objects : n ≤ most_objects_in v
 
--- in full what the version says of sizes and boxes; in brief there are no boxes
-abbrev pub IsOfFormat : CertFormat → List SizeOfLine → List PlainBoxLine → Type 0
-IsOfFormat (Full version) sizes boxes = IsOfVersion version sizes boxes
-IsOfFormat Brief sizes boxes = boxes ≡ []
+-- in full what the version says of sizes and boxes, and no primaries; in brief there are no boxes
+abbrev pub IsOfFormat : CertFormat → List SizeOfLine → List ℕ → List PlainBoxLine → Type 0
+IsOfFormat (Full version) sizes primaries boxes = IsOfVersion version sizes boxes × (primaries ≡ [])
+IsOfFormat Brief sizes primaries boxes = boxes ≡ []
 
 -- the ranges of the lists
-pub record ListsFit (v : CertFormat) (ss : List SizeOfLine) (hs : List ShellLine) (bs : List PlainBoxLine) (cs : List PlainLeaf) : Type 0 where
-  pub version : IsOfFormat v ss bs
+pub record ListsFit (v : CertFormat) (ss : List SizeOfLine) (ps : List ℕ) (hs : List ShellLine) (bs : List PlainBoxLine) (cs : List PlainLeaf) : Type 0 where
+  pub version : IsOfFormat v ss ps bs
   pub sizes : All (FitsSize (most_objects_in v)) ss
+  pub primaries : All (λ object. object < most_objects_in v) ps
   pub shells : All (FitsShell (most_objects_in v)) hs
   pub boxes : All (FitsBox (most_objects_in v)) bs
   pub cells : All (FitsCell (most_objects_in v)) cs
@@ -336,7 +398,7 @@ pub record ListsFit (v : CertFormat) (ss : List SizeOfLine) (hs : List ShellLine
 -- the ranges of what is told so far
 pub record FitsSoFar (v : CertFormat) (c : PlainSaid) : Type 0 where
   pub head : HeadFits v c.first c.last c.threshold c.objects
-  pub lists : ListsFit v c.sizes c.shells c.boxes c.cells
+  pub lists : ListsFit v c.sizes c.primaries c.shells c.boxes c.cells
 
 -- one size or box more of a line that fits
 size_fits : (v : CertFormat) (s : SizeOfLine) → FitsSizeIn v s → FitsSize (most_objects_in v) s
@@ -344,15 +406,26 @@ size_fits (Full One) s is = absurd is
 size_fits (Full Two) s is = is
 size_fits Brief s is = is
 
-size_allowed : (v : CertFormat) (ss : List SizeOfLine) (s : SizeOfLine) (bs : List PlainBoxLine) → IsOfFormat v ss bs → FitsSizeIn v s → IsOfFormat v (ss ++ s ∷ []) bs
-size_allowed (Full One) ss s bs of is = absurd is
-size_allowed (Full Two) ss s bs of is = tt
-size_allowed Brief ss s bs of is = of
+size_allowed : (v : CertFormat) (ss : List SizeOfLine) (s : SizeOfLine) (ps : List ℕ) (bs : List PlainBoxLine) → IsOfFormat v ss ps bs → FitsSizeIn v s
+    → IsOfFormat v (ss ++ s ∷ []) ps bs
+size_allowed (Full One) ss s ps bs of is = absurd is
+size_allowed (Full Two) ss s ps bs of is = (tt, of.1)
+size_allowed Brief ss s ps bs of is = of
 
-box_allowed : (v : CertFormat) (ss : List SizeOfLine) (bs : List PlainBoxLine) (b : PlainBoxLine) → IsOfFormat v ss bs → FitsSlots v b → IsOfFormat v ss (bs ++ b ∷ [])
-box_allowed (Full One) ss bs b of is = (of.0, All-push (λ (x : PlainBoxLine). x.first ≡ x.last) bs b of.1 is)
-box_allowed (Full Two) ss bs b of is = tt
-box_allowed Brief ss bs b of is = absurd is
+primary_fits : (v : CertFormat) (object : ℕ) → FitsPrimaryIn v object → object < most_objects_in v
+primary_fits (Full version) object is = absurd is
+primary_fits Brief object is = is
+
+primary_allowed : (v : CertFormat) (ss : List SizeOfLine) (ps : List ℕ) (object : ℕ) (bs : List PlainBoxLine) → IsOfFormat v ss ps bs → FitsPrimaryIn v object
+    → IsOfFormat v ss (ps ++ object ∷ []) bs
+primary_allowed (Full version) ss ps object bs of is = absurd is
+primary_allowed Brief ss ps object bs of is = of
+
+box_allowed : (v : CertFormat) (ss : List SizeOfLine) (ps : List ℕ) (bs : List PlainBoxLine) (b : PlainBoxLine) → IsOfFormat v ss ps bs → FitsSlots v b
+    → IsOfFormat v ss ps (bs ++ b ∷ [])
+box_allowed (Full One) ss ps bs b of is = ((of.0.0, All-push (λ (x : PlainBoxLine). x.first ≡ x.last) bs b of.0.1 is), of.1)
+box_allowed (Full Two) ss ps bs b of is = (tt, of.1)
+box_allowed Brief ss ps bs b of is = absurd is
 
 fits_more : (v : CertFormat) (c : PlainSaid) (l : PlainLine) → FitsSoFar v c → FitsLine v l → FitsSoFar v (with_line c l)
 fits_more v c Heading so is = so
@@ -368,21 +441,26 @@ fits_more v c (Objects count) so is =
 fits_more v c (Size s) so is =
     let ls = so.lists in
     let sizes = All-push (FitsSize (most_objects_in v)) c.sizes s ls.sizes (size_fits v s is) in
-    let version = size_allowed v c.sizes s c.boxes ls.version is in
-    record { head = so.head; lists = record { version = version; sizes = sizes; shells = ls.shells; boxes = ls.boxes; cells = ls.cells } }
+    let version = size_allowed v c.sizes s c.primaries c.boxes ls.version is in
+    record { head = so.head; lists = record { version = version; sizes = sizes; primaries = ls.primaries; shells = ls.shells; boxes = ls.boxes; cells = ls.cells } }
+fits_more v c (Primary object) so is =
+    let ls = so.lists in
+    let primaries = All-push (λ (k : ℕ). k < most_objects_in v) c.primaries object ls.primaries (primary_fits v object is) in
+    let version = primary_allowed v c.sizes c.primaries object c.boxes ls.version is in
+    record { head = so.head; lists = record { version = version; sizes = ls.sizes; primaries = primaries; shells = ls.shells; boxes = ls.boxes; cells = ls.cells } }
 fits_more v c (Shell s) so is =
     let ls = so.lists in
     let shells = All-push (FitsShell (most_objects_in v)) c.shells s ls.shells is in
-    record { head = so.head; lists = record { version = ls.version; sizes = ls.sizes; shells = shells; boxes = ls.boxes; cells = ls.cells } }
+    record { head = so.head; lists = record { version = ls.version; sizes = ls.sizes; primaries = ls.primaries; shells = shells; boxes = ls.boxes; cells = ls.cells } }
 fits_more v c (Box b) so is =
     let ls = so.lists in
     let boxes = All-push (FitsBox (most_objects_in v)) c.boxes b ls.boxes is.0 in
-    let version = box_allowed v c.sizes c.boxes b ls.version is.1 in
-    record { head = so.head; lists = record { version = version; sizes = ls.sizes; shells = ls.shells; boxes = boxes; cells = ls.cells } }
+    let version = box_allowed v c.sizes c.primaries c.boxes b ls.version is.1 in
+    record { head = so.head; lists = record { version = version; sizes = ls.sizes; primaries = ls.primaries; shells = ls.shells; boxes = boxes; cells = ls.cells } }
 fits_more v c (Cell s) so is =
     let ls = so.lists in
     let cells = All-push (FitsCell (most_objects_in v)) c.cells s ls.cells is in
-    record { head = so.head; lists = record { version = ls.version; sizes = ls.sizes; shells = ls.shells; boxes = ls.boxes; cells = cells } }
+    record { head = so.head; lists = record { version = ls.version; sizes = ls.sizes; primaries = ls.primaries; shells = ls.shells; boxes = ls.boxes; cells = cells } }
 fits_more v c End so is = so
 
 -- behind its line the threshold is told
@@ -451,9 +529,9 @@ all_read v number before c d (text ∷ next ∷ parts) later so some h =
     one_part v number before c d text (join_with_byte 10 (next ∷ parts)) (next ∷ parts) (line_said v before text) later so some refl h
     (λ l later' so' some' h'. all_read v (number + 1) (Some (rank_of l)) (with_line c l) d (next ∷ parts) later' so' some' h')
 
-nothing_allowed : (v : CertFormat) → IsOfFormat v [] []
-nothing_allowed (Full One) = (refl, All-nil (λ (b : PlainBoxLine). b.first ≡ b.last))
-nothing_allowed (Full Two) = tt
+nothing_allowed : (v : CertFormat) → IsOfFormat v [] [] []
+nothing_allowed (Full One) = ((refl, All-nil (λ (b : PlainBoxLine). b.first ≡ b.last)), refl)
+nothing_allowed (Full Two) = (tt, refl)
 nothing_allowed Brief = refl
 
 nothing_fits : (v : CertFormat) → FitsSoFar v nothing_said
@@ -462,6 +540,7 @@ nothing_fits v = record {
   lists = record {
     version = nothing_allowed v;
     sizes = All-nil (FitsSize (most_objects_in v));
+    primaries = All-nil (λ (object : ℕ). object < most_objects_in v);
     shells = All-nil (FitsShell (most_objects_in v));
     boxes = All-nil (FitsBox (most_objects_in v));
     cells = All-nil (FitsCell (most_objects_in v));
@@ -477,19 +556,30 @@ pub record IsRead (v : CertFormat) (bytes : List ℕ) (c : PlainSaid) : Type 0 w
 pub lines_read : (v : CertFormat) (bytes : List ℕ) (c : PlainSaid) → lines_said v bytes ≡ Ok c → IsRead v bytes c
 unfolding lines_said
 lines_read v bytes c h =
-    let none : NoLater None nothing_said = record { no_sizes = λ lt. refl; no_shells = λ lt. refl; no_boxes = λ lt. refl; no_cells = λ lt. refl } in
+    let none : NoLater None nothing_said = record {
+      no_sizes = λ lt. refl;
+      no_primaries = λ lt. refl;
+      no_shells = λ lt. refl;
+      no_boxes = λ lt. refl;
+      no_cells = λ lt. refl;
+    } in
     let w = all_read v 1 None nothing_said c (slice_split (λ b. b == 10) bytes) none (nothing_fits v) (λ low. absurd (omega arith)) h in
     record { text = sym (join_with_byte-slice_split 10 bytes) ∙ w.text; fits = w.fits; some = w.some }
 
 -- ---- in full
 
-full_text : (version : CertVersion) (c : PlainSaid) → text_in (Full version) c ≡ text_of (in_version version c)
+no_primary_text : (front primaries : List ℕ) → primaries ≡ [] → front ++ flat_map primary_text primaries ≡ front
+no_primary_text front primaries none = ap (λ (ps : List ℕ). front ++ flat_map primary_text ps) none ∙ append-nil front
+
+pub full_text : (version : CertVersion) (c : PlainSaid) → c.primaries ≡ [] → text_in (Full version) c ≡ text_of (in_version version c)
 unfolding text_of
-full_text version c = refl
+full_text version c none =
+    ap (λ (t : List ℕ). t ++ flat_map shell_text c.shells ++ flat_map (box_text_in (Full version)) c.boxes ++ flat_map cell_text c.cells ++ row (codes "END") [])
+    (no_primary_text (head_in (Full version) c ++ flat_map size_text c.sizes) c.primaries none)
 
 full_fits : (version : CertVersion) (bytes : List ℕ) (c : PlainSaid) → IsRead (Full version) bytes c → Fits (in_version version c)
 full_fits version bytes c read = record {
-  version = read.fits.lists.version;
+  version = read.fits.lists.version.0;
   first = read.fits.head.first;
   last = read.fits.head.last;
   some = read.some;
@@ -514,7 +604,7 @@ reading_only bytes c h = go (lines_said (Full version) bytes) refl h
     go (Ok s) is h =
         let same : in_version version s ≡ c = cc in
         let read = lines_read (Full version) bytes s is in
-        subst (λ (d : PlainCertificate). (bytes ≡ text_of d) × Fits d) same (read.text ∙ full_text version s, full_fits version bytes s read)
+        subst (λ (d : PlainCertificate). (bytes ≡ text_of d) × Fits d) same (read.text ∙ full_text version s read.fits.lists.version.1, full_fits version bytes s read)
 
 -- ---- in brief
 
@@ -524,7 +614,7 @@ no_box_text v front boxes none = ap (λ (bs : List PlainBoxLine). front ++ flat_
 pub in_brief_text : (c : PlainSaid) → c.boxes ≡ [] → text_in Brief c ≡ brief_text (in_brief c)
 unfolding brief_text
 in_brief_text c none =
-    ap (λ (t : List ℕ). t ++ flat_map cell_text c.cells ++ row (codes "END") []) (no_box_text Brief (head_in Brief c ++ flat_map size_text c.sizes ++ flat_map shell_text c.shells) c.boxes none)
+    ap (λ (t : List ℕ). t ++ flat_map cell_text c.cells ++ row (codes "END") []) (no_box_text Brief (head_in Brief c ++ flat_map size_text c.sizes ++ flat_map primary_text c.primaries ++ flat_map shell_text c.shells) c.boxes none)
 
 brief_fits : (bytes : List ℕ) (c : PlainSaid) → IsRead Brief bytes c → FitsInBrief (in_brief c)
 brief_fits bytes c read = record {
@@ -534,6 +624,7 @@ brief_fits bytes c read = record {
   threshold = read.fits.head.threshold;
   objects = read.fits.head.objects;
   sizes = read.fits.lists.sizes;
+  primaries = read.fits.lists.primaries;
   shells = read.fits.lists.shells;
   cells = read.fits.lists.cells;
 }

@@ -169,4 +169,4 @@ pub read_allows : (version : CertVersion) (bytes : List ℕ) (c : PlainSaid) (si
 read_allows version bytes c sizes boxes is same_sizes same_boxes =
     version_allows version sizes boxes
     (subst (λ (bs : List PlainBoxLine). IsOfVersion version sizes bs) same_boxes
-    (subst (λ (ss : List SizeOfLine). IsOfVersion version ss c.boxes) same_sizes (lines_read (Full version) bytes c is).fits.lists.version))
+    (subst (λ (ss : List SizeOfLine). IsOfVersion version ss c.boxes) same_sizes (lines_read (Full version) bytes c is).fits.lists.version.0))

@@ -33,6 +33,7 @@ words_left v rank.Window numbers (word ∷ words) some no_shell no_cell = refl
 words_left v rank.Threshold numbers (word ∷ words) some no_shell no_cell = refl
 words_left v rank.Objects numbers (word ∷ words) some no_shell no_cell = refl
 words_left v rank.Size numbers (word ∷ words) some no_shell no_cell = refl
+words_left v rank.Primary numbers (word ∷ words) some no_shell no_cell = refl
 words_left v rank.Shell numbers (word ∷ words) some no_shell no_cell = absurd (no_shell refl)
 words_left v rank.Box numbers (word ∷ words) some no_shell no_cell = refl
 words_left v rank.Cell numbers (word ∷ words) some no_shell no_cell = absurd (no_cell refl)

@@ -9,6 +9,7 @@ use Rattle.cj_formats.specs.declared.cert_version.CertVersion.{CertVersion}
 use Rattle.cj_formats.specs.declared.cert_version.CertVersion.TheVariants.{One}
 use Rattle.cj_interval.proofs.RangeLemmas.{flat_map-range_more}
 use Rattle.cj_case.specs.PlainProblems.{PlainProblem}
+use Rattle.cj_case.specs.Primaries.{named}
 use Rattle.cj_case.specs.declared.leaf.Leaf.{Leaf}
 use Rattle.cj_case.specs.Leaves.{plain_leaf, plain_leaves}
 use Rattle.cj_case.specs.Boxes.{PlainBox}
@@ -19,7 +20,7 @@ use Rattle.cj_cert.specs.declared.cert_lines.ShellLine.{ShellLine}
 use Rattle.cj_cert_text.specs.declared.object_boxes.ObjectBoxes.{ObjectBoxes}
 use Rattle.cj_cert.specs.Certificates.{PlainBoxLine}
 use Rattle.cj_cert_text.specs.ObjectTexts.{object_text}
-use Rattle.cj_cert_text.specs.Texts.{box_text, brief_text, cell_text, first_lines, first_lines_in, row, shell_text, size_text, text_of}
+use Rattle.cj_cert_text.specs.Texts.{box_text, brief_text, cell_text, first_lines, first_lines_in, primary_text, row, shell_text, size_text, text_of}
 use Rattle.cj_cert.specs.Written.{box_lines, leaves_in_order, line_of_box, lines_in_row, shell_line, size_lines, written}
 use Rattle.cj_cert.proofs.WrittenLineLemmas.{box_missing, box_more}
 
@@ -91,17 +92,19 @@ all_left case objects shells each leaves front back count of_shells of_boxes of_
 -- the same in brief, where no boxes are
 pub all_left_in_brief : (case : PlainProblem) (shells : List ShellLine) (each : List ObjectBoxes) (leaves : List Leaf) (front back : List ℕ)
     → shells ≡ map (shell_line case) (enumerate_from 0 case.tracks) → each ≡ [] → plain_leaves leaves ≡ told_leaves case
-    → front ≡ first_lines_in Brief case.first case.last case.threshold (length case.tracks) ++ flat_map size_text (size_lines case.sizes) → back ≡ row (codes "END") []
+    → front ≡ first_lines_in Brief case.first case.last case.threshold (length case.tracks) ++ flat_map size_text (size_lines case.sizes)
+    ++ flat_map primary_text (named case.primaries) → back ≡ row (codes "END") []
     → front ++ (flat_map shell_text shells ++ (flat_map (object_text One) each ++ (flat_map (λ (leaf : Leaf). cell_text (plain_leaf leaf)) leaves ++ back)))
     ≡ brief_text (written_in_brief case)
 unfolding brief_text written_in_brief
 all_left_in_brief case shells each leaves front back of_shells none of_leaves of_front of_back =
     let head = first_lines_in Brief case.first case.last case.threshold (length case.tracks) in
     let z = flat_map size_text (size_lines case.sizes) in
+    let p = flat_map primary_text (named case.primaries) in
     let s = flat_map shell_text (map (shell_line case) (enumerate_from 0 case.tracks)) in
     let l = flat_map cell_text (told_leaves case) in
     let e = row (codes "END") [] in
     let of_cells : flat_map (λ (leaf : Leaf). cell_text (plain_leaf leaf)) leaves ≡ l =
     sym (flat_map-map cell_text plain_leaf leaves) ∙ ap (flat_map cell_text) of_leaves in
     (λ i. of_front i ++ (flat_map shell_text (of_shells i) ++ (flat_map (object_text One) (none i) ++ (of_cells i ++ of_back i))))
-    ∙ sym (append_assoc ((head ++ z) ++ s) l e ∙ append_assoc (head ++ z) s (l ++ e))
+    ∙ sym (append_assoc (((head ++ z) ++ p) ++ s) l e ∙ append_assoc ((head ++ z) ++ p) s (l ++ e))

@@ -65,5 +65,6 @@ pub record FitsInBrief (c : PlainBrief) : Type 0 where
   pub threshold : c.threshold ≤ MAX_THRESHOLD
   pub objects : c.objects ≤ most_objects_in Brief
   pub sizes : All (FitsSize (most_objects_in Brief)) c.sizes
+  pub primaries : All (λ object. object < most_objects_in Brief) c.primaries
   pub shells : All (FitsShell (most_objects_in Brief)) c.shells
   pub cells : All (FitsCell (most_objects_in Brief)) c.cells

@@ -29,6 +29,7 @@ pub data PlainLine : Type 0 where
   Threshold : ℕ → PlainLine
   Objects : ℕ → PlainLine
   Size : SizeOfLine → PlainLine
+  Primary : ℕ → PlainLine
   Shell : ShellLine → PlainLine
   Box : PlainBoxLine → PlainLine
   Cell : PlainLeaf → PlainLine
@@ -40,6 +41,7 @@ rank_of (Window first last) = rank.Window
 rank_of (Threshold threshold) = rank.Threshold
 rank_of (Objects count) = rank.Objects
 rank_of (Size size) = rank.Size
+rank_of (Primary object) = rank.Primary
 rank_of (Shell shell) = rank.Shell
 rank_of (Box box) = rank.Box
 rank_of (Cell cell) = rank.Cell
@@ -110,6 +112,15 @@ abbrev pub size : CertFormat → List ℤ → Result PlainLine CertCause
 size (Full One) numbers = Err causes.Form
 size (Full Two) numbers = size_of (Full Two) numbers
 size Brief numbers = size_of Brief numbers
+
+abbrev pub primary_of : List ℤ → Result PlainLine CertCause
+primary_of (i ∷ []) = in_range (is_object Brief i) (Primary (object_of i))
+primary_of numbers = Err causes.Form
+
+-- primaries are told in brief alone
+abbrev pub primary : CertFormat → List ℤ → Result PlainLine CertCause
+primary (Full version) numbers = Err causes.Form
+primary Brief numbers = primary_of numbers
 
 abbrev pub shell : CertFormat → List ℤ → Result PlainLine CertCause
 shell format (i ∷ lo ∷ hi ∷ []) = in_range (is_object format i && is_radius lo && is_radius hi && int_le lo hi)
@@ -192,6 +203,7 @@ said_by format rank.Window numbers words = alone words (window numbers)
 said_by format rank.Threshold numbers words = alone words (threshold numbers)
 said_by format rank.Objects numbers words = alone words (objects format numbers)
 said_by format rank.Size numbers words = alone words (size format numbers)
+said_by format rank.Primary numbers words = alone words (primary format numbers)
 said_by format rank.Shell numbers words = shell_or_none format numbers words
 said_by format rank.Box numbers words = alone words (box format numbers)
 said_by format rank.Cell numbers words = cell format numbers (kind_of words)

@@ -2,7 +2,7 @@
 use Rattle.std.specs.Prelude.{ℕ, ◌+◌, ◌==◌, Bool, false, ◌&&◌, nat_le, nat_lt, if◌then◌else◌, List, codes, Option, Some, None}
 use Rattle.std.specs.Str.{bytes_eq}
 use Rattle.cj_cert_text.specs.declared.rank.Rank.{Rank}
-use Rattle.cj_cert_text.specs.declared.rank.Rank.TheVariants.{Heading, Window, Threshold, Objects, Size, Shell, Box, Cell, End}
+use Rattle.cj_cert_text.specs.declared.rank.Rank.TheVariants.{Heading, Window, Threshold, Objects, Size, Primary, Shell, Box, Cell, End}
 
 -- the place of a kind in their order
 abbrev pub place : Rank → ℕ
@@ -11,10 +11,11 @@ place Window = 2
 place Threshold = 3
 place Objects = 4
 place Size = 5
-place Shell = 6
-place Box = 7
-place Cell = 8
-place End = 9
+place Primary = 6
+place Shell = 7
+place Box = 8
+place Cell = 9
+place End = 10
 
 -- the kind of the lines that begin with a word
 unfoldable pub rank_of_word : List ℕ → Option Rank
@@ -23,6 +24,7 @@ rank_of_word word =
     else if bytes_eq word (codes "BOX") then Some Box
     else if bytes_eq word (codes "SHELL") then Some Shell
     else if bytes_eq word (codes "SIZE") then Some Size
+    else if bytes_eq word (codes "PRIMARY") then Some Primary
     else if bytes_eq word (codes "CONJ-CERT") then Some Heading
     else if bytes_eq word (codes "WINDOW") then Some Window
     else if bytes_eq word (codes "THRESHOLD") then Some Threshold
@@ -39,4 +41,4 @@ may_follow rank (Some before) =
 -- the last line was there
 abbrev pub has_ended : Option Rank → Bool
 has_ended None = false
-has_ended (Some before) = place before == 9
+has_ended (Some before) = place before == 10

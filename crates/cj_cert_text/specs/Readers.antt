@@ -10,7 +10,7 @@ use Rattle.cj_cert_text.specs.declared.draft.CertificateDraft.{CertificateDraft}
 use Rattle.cj_formats.specs.declared.cert_cause.CertCause.{CertCause}
 use Rattle.cj_formats.specs.declared.cert_cause.CertCause.TheVariants as causes
 use Rattle.cj_cert.specs.Certificates.{plain_box_line, plain_cell_line}
-use Rattle.cj_cert_text.specs.Lines.{PlainLine, Heading, Window, Threshold, Objects, Size, Shell, Box, Cell, End}
+use Rattle.cj_cert_text.specs.Lines.{PlainLine, Heading, Window, Threshold, Objects, Size, Primary, Shell, Box, Cell, End}
 use Rattle.cj_cert_text.specs.Numbers.{numbers_in, others_in}
 use Rattle.cj_cert_text.specs.Reading.{PlainSaid}
 
@@ -32,6 +32,7 @@ plain_line (lines.Window window) = Window window.first.micros window.last.micros
 plain_line (lines.Threshold threshold) = Threshold threshold
 plain_line (lines.Objects count) = Objects count
 plain_line (lines.Size size) = Size size
+plain_line (lines.Primary object) = Primary object
 plain_line (lines.Shell shell) = Shell shell
 plain_line (lines.Box box) = Box (plain_box_line box)
 plain_line (lines.Cell cell) = Cell (plain_cell_line cell)
@@ -50,6 +51,7 @@ plain_draft d = record {
   threshold = d.threshold;
   objects = d.objects;
   sizes = d.sizes.items;
+  primaries = d.primaries.items;
   shells = d.shells.items;
   boxes = map plain_box_line d.boxes.items;
   cells = map plain_cell_line d.cells.items;

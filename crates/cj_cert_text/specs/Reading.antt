@@ -16,7 +16,7 @@ use Rattle.cj_cert.specs.Certificates.{PlainBoxLine, PlainCertificate}
 use Rattle.cj_brief.specs.Certificates.{PlainBrief}
 use Rattle.cj_formats.specs.declared.cert_format.CertFormat.{CertFormat}
 use Rattle.cj_formats.specs.declared.cert_format.CertFormat.TheVariants.{Full, Brief}
-use Rattle.cj_cert_text.specs.Lines.{PlainLine, Heading, Window, Threshold, Objects, Size, Shell, Box, Cell, End, line_said, rank_of}
+use Rattle.cj_cert_text.specs.Lines.{PlainLine, Heading, Window, Threshold, Objects, Size, Primary, Shell, Box, Cell, End, line_said, rank_of}
 use Rattle.cj_cert_text.specs.Ranks.{has_ended}
 
 -- a fault of a text at its line
@@ -30,6 +30,7 @@ pub record PlainSaid : Type 0 where
   pub threshold : ℕ
   pub objects : ℕ
   pub sizes : List SizeOfLine
+  pub primaries : List ℕ
   pub shells : List ShellLine
   pub boxes : List PlainBoxLine
   pub cells : List PlainLeaf
@@ -44,6 +45,7 @@ with_line c (Window first last) = record c { first = first; last = last }
 with_line c (Threshold threshold) = record c { threshold = threshold }
 with_line c (Objects count) = record c { objects = count }
 with_line c (Size size) = record c { sizes = c.sizes ++ size ∷ [] }
+with_line c (Primary object) = record c { primaries = c.primaries ++ object ∷ [] }
 with_line c (Shell shell) = record c { shells = c.shells ++ shell ∷ [] }
 with_line c (Box box) = record c { boxes = c.boxes ++ box ∷ [] }
 with_line c (Cell cell) = record c { cells = c.cells ++ cell ∷ [] }
@@ -69,6 +71,7 @@ nothing_said = record {
   threshold = 0;
   objects = 0;
   sizes = [];
+  primaries = [];
   shells = [];
   boxes = [];
   cells = [];
@@ -103,9 +106,18 @@ reading bytes = and_then (lines_said (Full (version_of bytes)) bytes) (λ c. Ok 
 
 -- ---- in brief
 
--- there are no boxes
+-- there are no boxes; in full there are no primaries
 abbrev pub in_brief : PlainSaid → PlainBrief
-in_brief c = record { first = c.first; last = c.last; threshold = c.threshold; objects = c.objects; sizes = c.sizes; shells = c.shells; cells = c.cells }
+in_brief c = record {
+  first = c.first;
+  last = c.last;
+  threshold = c.threshold;
+  objects = c.objects;
+  sizes = c.sizes;
+  primaries = c.primaries;
+  shells = c.shells;
+  cells = c.cells;
+}
 
 -- what the bytes of a certificate in brief say
 unfoldable pub reading_in_brief : List ℕ → Result PlainBrief Fault

@@ -51,6 +51,9 @@ head_text c = first_lines c.version c.first c.last c.threshold c.objects
 abbrev pub size_text : SizeOfLine → List ℕ
 size_text s = row (codes "SIZE") (number s.object ∷ pos s.size ∷ [])
 
+abbrev pub primary_text : ℕ → List ℕ
+primary_text object = row (codes "PRIMARY") (number object ∷ [])
+
 -- the shell of an object, where there is one
 abbrev pub shell_row : ℕ → Option Shell → List ℕ
 shell_row object None = row_ended (codes "SHELL") (number object ∷ []) (codes "NONE")
@@ -94,6 +97,7 @@ unfoldable pub brief_text : PlainBrief → List ℕ
 brief_text c =
     first_lines_in Brief c.first c.last c.threshold c.objects
     ++ flat_map size_text c.sizes
+    ++ flat_map primary_text c.primaries
     ++ flat_map shell_text c.shells
     ++ flat_map cell_text c.cells
     ++ row (codes "END") []

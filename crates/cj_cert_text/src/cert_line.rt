@@ -10,6 +10,8 @@ pub(crate) enum CertLine {
     Threshold(u64),
     Objects(u32),
     Size(SizeOfLine),
+    /// The number of a primary.
+    Primary(u32),
     Shell(ShellLine),
     Box(BoxLine),
     Cell(CellLine),
@@ -31,6 +33,7 @@ impl CertLine {
             CertLine::Threshold(_) => Rank::Threshold,
             CertLine::Objects(_) => Rank::Objects,
             CertLine::Size(_) => Rank::Size,
+            CertLine::Primary(_) => Rank::Primary,
             CertLine::Shell(_) => Rank::Shell,
             CertLine::Box(_) => Rank::Box,
             CertLine::Cell(_) => Rank::Cell,

@@ -23,7 +23,7 @@ const LINES_A_WORKER: usize = 16_384;
 #[derive(Drop)]
 pub struct CertificateText<'a> {
     pub(crate) workers: u32,
-    /// The text of the first four lines, and in brief of the sizes, until it is handed out.
+    /// The text of the first four lines, and in brief of the sizes and the primaries, until it is handed out.
     pub(crate) head: Vec<u8>,
     pub(crate) shells: Vec<ShellLine>,
     pub(crate) shells_made: usize,

@@ -69,6 +69,7 @@ fn said_by_numbers(format: CertFormat, rank: Rank, numbers: &[i128]) -> Result<C
         Rank::Threshold => threshold(numbers),
         Rank::Objects => objects(format, numbers),
         Rank::Size => size(format, numbers),
+        Rank::Primary => primary(format, numbers),
         Rank::Shell => shell(format, numbers),
         Rank::Box => area(format, numbers),
         Rank::Cell => Err(CertCause::Form),
@@ -161,6 +162,25 @@ fn size_of(format: CertFormat, numbers: &[i128]) -> Result<CertLine, CertCause>
     let object = object(format, *number)?;
     let size = within(*size, 0, MAX_SIZE)?;
     Ok(CertLine::Size(SizeOfLine { object, size }))
+}
+
+/// A primary, which is told in brief alone.
+fn primary(format: CertFormat, numbers: &[i128]) -> Result<CertLine, CertCause>
+    ensures { Tells plain_line result (spec.primary format numbers.now) }
+{
+    match format {
+        CertFormat::Full(_) => Err(CertCause::Form),
+        CertFormat::Brief => primary_of(numbers),
+    }
+}
+
+fn primary_of(numbers: &[i128]) -> Result<CertLine, CertCause>
+    ensures { Tells plain_line result (spec.primary_of numbers.now) }
+{
+    let [number] = numbers else {
+        return Err(CertCause::Form);
+    };
+    Ok(CertLine::Primary(object(CertFormat::Brief, *number)?))
 }
 
 fn shell(format: CertFormat, numbers: &[i128]) -> Result<CertLine, CertCause>

@@ -140,7 +140,7 @@ fn push_cell(
 }
 
 /// The number of an object in a text, where they are counted from 1.
-fn number_of(object: u32) -> i128
+pub(crate) fn number_of(object: u32) -> i128
     ensures { result ≡ pos (object + 1) }
 {
     i128::from(object) + 1

@@ -1,10 +1,11 @@
 //! The text of a certificate.
-ghost use Rattle.std.specs.Prelude.{◌≡◌, [], IfOk, codes};
+ghost use Rattle.std.specs.Prelude.{◌≡◌, ◌++◌, [], IfOk, OnOk, codes, flat_map};
 ghost use Rattle.cj_io.specs.Parts.{joined};
 ghost use Rattle.cj_cert.specs.Certificates.{plain_certificate};
 ghost use Rattle.cj_brief.specs.Certificates.{plain_brief};
-ghost use Rattle.cj_cert_text.specs.Texts.{brief_text as the_brief_text, first_lines_in, row, text_of};
+ghost use Rattle.cj_cert_text.specs.Texts.{brief_text as the_brief_text, first_lines_in, primary_text, row, text_of};
 
+use crate::printed_line::number_of;
 use crate::printed_parts::push_lines;
 use crate::rows::push_row;
 use cj_base::Window;
@@ -85,11 +86,31 @@ pub fn brief_parts<R: Threads + Sync>(
     )?;
     parts.push(front)?;
     push_lines(rt, alloc, &mut parts, version, &cert.sizes, workers)?;
+    let mut primaries = Vec::new(alloc);
+    push_primaries(&mut primaries, &cert.primaries)?;
+    parts.push(primaries)?;
     push_lines(rt, alloc, &mut parts, version, &cert.shells, workers)?;
     push_lines(rt, alloc, &mut parts, version, &cert.cells, workers)?;
     let back = end(alloc)?;
     parts.push(back)?;
     Ok(parts)
+}
+
+/// Adds the lines of primaries.
+pub(crate) fn push_primaries(text: &mut Vec<u8>, primaries: &[u32]) -> Result<(), AllocError>
+    ensures { OnOk result (text.new.items ≡ text.old.items ++ flat_map primary_text primaries.now) }
+{
+    for object in primaries {
+        push_primary(text, *object)?;
+    }
+    Ok(())
+}
+
+/// Adds the line of a primary.
+fn push_primary(text: &mut Vec<u8>, object: u32) -> Result<(), AllocError>
+    ensures { OnOk result (text.new.items ≡ text.old.items ++ primary_text object) }
+{
+    push_row(text, b"PRIMARY", &[number_of(object)])
 }
 
 /// The first four lines.

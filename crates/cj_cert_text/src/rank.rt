@@ -6,6 +6,7 @@ pub(crate) enum Rank {
     Threshold,
     Objects,
     Size,
+    Primary,
     Shell,
     Box,
     Cell,
@@ -29,6 +30,8 @@ impl Rank {
             Some(Rank::Shell)
         } else if word == b"SIZE".as_slice() {
             Some(Rank::Size)
+        } else if word == b"PRIMARY".as_slice() {
+            Some(Rank::Primary)
         } else if word == b"CONJ-CERT".as_slice() {
             Some(Rank::Heading)
         } else if word == b"WINDOW".as_slice() {
@@ -66,10 +69,11 @@ impl Rank {
             Rank::Threshold => 3,
             Rank::Objects => 4,
             Rank::Size => 5,
-            Rank::Shell => 6,
-            Rank::Box => 7,
-            Rank::Cell => 8,
-            Rank::End => 9,
+            Rank::Primary => 6,
+            Rank::Shell => 7,
+            Rank::Box => 8,
+            Rank::Cell => 9,
+            Rank::End => 10,
         }
     }
 }

@@ -1,6 +1,7 @@
 //! The text of the certificate that a run writes, of which nothing is made yet.
 ghost use Rattle.std.specs.Prelude.{◌≡◌, ◌++◌, IfOk, flat_map, length};
 ghost use Rattle.cj_formats.specs.declared.cert_format.CertFormat.TheVariants.{Brief};
+ghost use Rattle.cj_case.specs.Primaries.{named};
 ghost use Rattle.cj_case.specs.Problems.{plain_problem};
 ghost use Rattle.cj_case.specs.Leaves.{plain_leaves};
 ghost use Rattle.cj_bezier.specs.Candidates.{shells_of};
@@ -10,14 +11,14 @@ ghost use Rattle.cj_brief.specs.Accepted.{AcceptedInBrief};
 ghost use Rattle.cj_brief.specs.Written.{written_in_brief};
 ghost use Rattle.cj_cert.specs.Accepted.{Accepted};
 ghost use Rattle.cj_cert_text.specs.TextLeft.{text_left};
-ghost use Rattle.cj_cert_text.specs.Texts.{brief_text, first_lines_in, size_text, text_of};
+ghost use Rattle.cj_cert_text.specs.Texts.{brief_text, first_lines_in, primary_text, size_text, text_of};
 ghost use Rattle.cj_cert.specs.Written.{leaves_in_order, size_lines as the_size_lines, written};
 
 use crate::certificate_text::CertificateText;
 use crate::printed_boxes::boxes_by_object;
 use crate::printed_parts::push_in_turn;
-use crate::printing::{end, head};
-use cj_brief::acceptance_in_brief;
+use crate::printing::{end, head, push_primaries};
+use cj_brief::{acceptance_in_brief, primary_lines};
 use cj_case::{Leaf, Measured, Problem, Shell};
 use cj_cert::{acceptance, shell_lines, size_lines};
 use cj_formats::{CertFormat, CertVersion};
@@ -89,14 +90,16 @@ impl<'a> CertificateText<'a> {
     }
 }
 
-/// The lines in front of the shells, in brief: the first four, and the sizes of the objects.
+/// The lines in front of the shells, in brief: the first four, the sizes of the objects, and which are named as primaries.
 fn head_in_brief(alloc: Global, problem: &Problem) -> Result<Vec<u8>, AllocError>
     ensures { IfOk result (λ text. text.items
         ≡ first_lines_in Brief problem.now.window.first.micros problem.now.window.last.micros problem.now.threshold (length (plain_problem problem.now).tracks)
-        ++ flat_map size_text (the_size_lines (plain_problem problem.now).sizes)) }
+        ++ flat_map size_text (the_size_lines (plain_problem problem.now).sizes)
+        ++ flat_map primary_text (named (plain_problem problem.now).primaries)) }
 {
     let objects = problem.tracks.as_slice().len() as u32;
     let sizes = size_lines(alloc, problem.sizes.as_slice())?;
+    let primaries = primary_lines(alloc, problem)?;
     let mut text = head(
         alloc,
         CertFormat::Brief,
@@ -105,5 +108,6 @@ fn head_in_brief(alloc: Global, problem: &Problem) -> Result<Vec<u8>, AllocError
         objects,
     )?;
     push_in_turn(&mut text, CertVersion::Two, &sizes)?;
+    push_primaries(&mut text, &primaries)?;
     Ok(text)
 }

@@ -1,5 +1,5 @@
 //! Certificates in version 2, of boxes that stand for blocks of slots.
-ghost use Rattle.std.specs.Prelude.{◌≡◌, [], ◌∷◌, Some, length};
+ghost use Rattle.std.specs.Prelude.{◌≡◌, [], ◌∷◌, None, Some, length};
 ghost use Rattle.cj_cert.specs.Certificates.{plain_certificate};
 ghost use Rattle.cj_cert.specs.Listed.{shells_listed};
 
@@ -17,6 +17,7 @@ fn rewritten(alloc: Global, problem: &Problem, cert: Certificate) -> Result<Cert
     requires tracks { length problem.now.tracks ≡ 2 }
     requires threshold { problem.now.threshold ≡ 5000000000000 }
     requires sizes { problem.now.sizes ≡ 0 ∷ 0 ∷ [] }
+    requires primaries { problem.now.primaries ≡ None }
     requires shells { shells_listed (plain_certificate cert)
         ≡ Some (record { lo = 7000000000000000; hi = 7000000000000000 }) ∷ Some (record { lo = 7005000000000000; hi = 7005000000000000 }) ∷ [] }
 {

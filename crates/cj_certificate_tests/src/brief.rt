@@ -8,6 +8,7 @@ use cj_cert::{CellLine, ShellLine, SizeOfLine};
 use cj_cert_text::{CertCause, CertFault, brief_text, read_brief, read_cert};
 use std::alloc::{AllocError, Global};
 use std::panic::Expect;
+use std::process::Abort;
 
 /// The certificate of an empty folder.
 const EMPTY: &[u8] = b"CONJ-CERT 3
@@ -52,6 +53,7 @@ WINDOW 63072000000000 63072000000000
 THRESHOLD 5000000000000
 OBJECTS 65535
 SIZE 65535 0
+PRIMARY 65535
 SHELL 2001 NONE
 CELL 65534 65535 63072000000000 63072000000000 U
 END
@@ -72,6 +74,19 @@ SHELL 65536 NONE
 END
 ";
 
+/// Lines behind the number of objects, which stand from line 5 on, and their first fault.
+const PRIMARIES: [(&[u8], Option<(u32, CertCause)>); 9] = [
+    (b"SIZE 1 0\nPRIMARY 2\nPRIMARY 1\nSHELL 1 NONE\n", None),
+    (b"PRIMARY 65535\n", None),
+    (b"PRIMARY 0\n", Some((5, CertCause::Range))),
+    (b"PRIMARY 65536\n", Some((5, CertCause::Range))),
+    (b"PRIMARY\n", Some((5, CertCause::Form))),
+    (b"PRIMARY 1 2\n", Some((5, CertCause::Form))),
+    (b"PRIMARY 1 NONE\n", Some((5, CertCause::Form))),
+    (b"PRIMARY 1\nSIZE 1 0\n", Some((6, CertCause::Form))),
+    (b"SHELL 1 NONE\nPRIMARY 1\n", Some((6, CertCause::Form))),
+];
+
 const FIRST: Tick = Tick {
     micros: 1_735_689_600_000_000,
 };
@@ -89,6 +104,7 @@ fn empty(alloc: Global) -> BriefCertificate {
         threshold: 5_000_000_000_000,
         objects: 0,
         sizes: Vec::new(alloc),
+        primaries: Vec::new(alloc),
         shells: Vec::new(alloc),
         cells: Vec::new(alloc),
     }
@@ -130,6 +146,7 @@ fn at_rest(alloc: Global) -> Result<BriefCertificate, AllocError> {
             SizeOfLine { object: 0, size: 0 },
             SizeOfLine { object: 1, size: 0 },
         ]?,
+        primaries: Vec::new(alloc),
         shells: vec![in alloc;
             at_rest_on(0, 7_000_000_000_000_000),
             at_rest_on(1, 7_005_000_000_000_000),
@@ -152,6 +169,7 @@ fn of_last_object(alloc: Global) -> Result<BriefCertificate, AllocError> {
                 size: 0,
             },
         ]?,
+        primaries: vec![in alloc; 65_534]?,
         shells: vec![in alloc;
             ShellLine {
                 object: 2_000,
@@ -225,12 +243,48 @@ fn each_version_has_a_reader_of_its_own(rt: HostRuntime) {
     );
 }
 
+/// The first fault of a text of these lines behind the number of objects.
+fn fault_of(rt: &impl Abort, alloc: Global, lines: &[u8]) -> Option<(u32, CertCause)> {
+    let mut text = Vec::new(alloc);
+    text.extend_from_slice(
+        b"CONJ-CERT 3\nWINDOW 63072000000000 63072000000000\nTHRESHOLD 1\nOBJECTS 2\n",
+    ).expect(rt, "no fault");
+    text.extend_from_slice(lines).expect(rt, "no fault");
+    text.extend_from_slice(b"END\n").expect(rt, "no fault");
+    if text.len() > 1_000 {
+        return None;
+    }
+    match read_brief(alloc, &text) {
+        Err(CertFault::At { line, cause }) => Some((line, cause)),
+        _ => None,
+    }
+}
+
+#[test]
+fn primaries_stand_between_sizes_and_shells(rt: HostRuntime) {
+    let alloc = rt.alloc();
+    for (lines, wanted) in &PRIMARIES {
+        assert_eq!(rt; fault_of(&rt, alloc, lines), *wanted);
+    }
+}
+
 #[test]
 fn objects_go_up_to_sixty_five_thousand(rt: HostRuntime) {
     let alloc = rt.alloc();
     assert_eq!(rt;
         read_brief(alloc, LAST_OBJECT),
         Ok(of_last_object(alloc).expect(&rt, "no fault"))
+    );
+    assert_eq!(rt;
+        brief_text(
+            &rt,
+            alloc,
+            &of_last_object(alloc).expect(&rt, "no fault"),
+            1
+        )
+        .expect(&rt, "no fault")
+        .as_slice(),
+        LAST_OBJECT
     );
     assert_eq!(rt;
         read_brief(alloc, TOO_MANY_OBJECTS),

@@ -1,13 +1,14 @@
 //! Whether certificates in brief are accepted, and at which line and why they are not, of objects at rest over a minute and one tick.
 ghost use Rattle.std.specs.Prelude.{◌≡◌, ◌-◌, ◌^◌, ◌<◌};
 ghost use Rattle.cj_brief.specs.Certificates.{line_count, plain_brief};
+ghost use Rattle.cj_case.specs.Primaries.{marks_of};
 ghost use Rattle.cj_samples.specs.Moments.{IsPlace};
 ghost use Rattle.cj_track.specs.declared.frame.Frame.TheVariants.{Eme2000};
 ghost use Rattle.cj_track.specs.Segments.{node_count};
 
 use cj_brief::BriefCertificate;
 use cj_brief_checker::check_in_brief;
-use cj_case::{Problem, Sizes, Tracks};
+use cj_case::{Primaries, Problem, Sizes, Tracks};
 use cj_cert_text::read_brief;
 use cj_checker::Answer;
 use cj_formats::CheckCause;
@@ -53,6 +54,13 @@ fn far_and_touching(rt: &impl Abort, alloc: Global) -> Problem {
 
 /// Three objects, each two of which are near.
 fn three(rt: &impl Abort, alloc: Global) -> Problem {
+    three_by(rt, alloc, Primaries::all())
+}
+
+/// The same, of which some are primaries.
+pub fn three_by(rt: &impl Abort, alloc: Global, primaries: Primaries) -> Problem
+    requires { marks_of primaries 3 ≡ 3 }
+{
     let tracks = vec![in alloc;
         resting(rt, alloc, 0, 0),
         resting(rt, alloc, 1, 0),
@@ -63,6 +71,7 @@ fn three(rt: &impl Abort, alloc: Global) -> Problem {
         window: seconds(0, 60),
         threshold: 5_000_000_000_000,
         sizes: Sizes::new(vec![in alloc; 0, 0, 0].expect(rt, "no fault")),
+        primaries,
     }
 }
 

@@ -1,13 +1,14 @@
 //! Which leaves a certificate in brief tells, and in which order, of objects at rest over a minute and one tick; and its text, as a run
 //! hands it out.
 ghost use Rattle.std.specs.Prelude.{◌≡◌, ◌<◌, ◌*◌, length};
+ghost use Rattle.cj_case.specs.Primaries.{marks_of};
 ghost use Rattle.cj_samples.specs.Moments.{IsPlace, tick_of};
 ghost use Rattle.cj_track.specs.declared.frame.Frame.TheVariants.{Eme2000};
 ghost use Rattle.cj_track.specs.Segments.{node_count};
 
 use cj_brief::told_of_list;
 use cj_candidates::{measure_all, roots_in_turn};
-use cj_case::{Kind, Leaf, Problem, Sizes, Tracks};
+use cj_case::{Kind, Leaf, Primaries, Problem, Sizes, Tracks};
 use cj_cells::leaves_of;
 use cj_cert_text::CertificateText;
 use cj_io::{OpenGate, all_parts, join_parts};
@@ -61,6 +62,13 @@ fn coming_near(rt: &impl Abort, alloc: Global) -> Track
 
 /// Three objects, of which the first and the third are far from each other, and touch.
 fn three(rt: &impl Abort, alloc: Global) -> Problem {
+    three_by(rt, alloc, Primaries::all())
+}
+
+/// The same, of which some are primaries.
+fn three_by(rt: &impl Abort, alloc: Global, primaries: Primaries) -> Problem
+    requires { marks_of primaries 3 ≡ 3 }
+{
     let tracks = vec![in alloc;
         resting(rt, alloc, 0, 0),
         resting(rt, alloc, 1, 1),
@@ -71,6 +79,7 @@ fn three(rt: &impl Abort, alloc: Global) -> Problem {
         window: seconds(0, 60),
         threshold: 5_000_000_000_000,
         sizes: Sizes::new(vec![in alloc; 0, 0, 0].expect(rt, "no fault")),
+        primaries,
     }
 }
 
@@ -131,6 +140,24 @@ fn pairs_are_told_slot_by_slot(rt: HostRuntime) {
 }
 
 #[test]
+fn a_pair_of_two_secondaries_is_not_told(rt: HostRuntime) {
+    let alloc = rt.alloc();
+    let third = vec![in alloc; false, false, true].expect(&rt, "no fault");
+    let problem = three_by(&rt, alloc, Primaries::marked(third));
+    let near = [(1, 2, 0, 59_999_999), (1, 2, 60_000_000, 60_000_000)];
+    assert!(rt; are_told(&rt, alloc, &problem, &near));
+    assert_eq!(rt; lists_of(&rt, alloc, &problem).leaves.len(), 4);
+}
+
+#[test]
+fn no_pair_is_looked_at_without_a_primary(rt: HostRuntime) {
+    let alloc = rt.alloc();
+    let none = vec![in alloc; false, false, false].expect(&rt, "no fault");
+    let problem = three_by(&rt, alloc, Primaries::marked(none));
+    assert_eq!(rt; lists_of(&rt, alloc, &problem).leaves.len(), 0);
+}
+
+#[test]
 fn of_two_roots_in_a_slot_one_is_told(rt: HostRuntime) {
     let alloc = rt.alloc();
     let a = resting(&rt, alloc, 0, 0);
@@ -182,4 +209,30 @@ fn a_run_hands_out_its_certificate_in_brief(rt: HostRuntime) {
     assert_eq!(rt; one.as_slice(), crate::brief::AT_REST);
     let three = text_of(&rt, alloc, &problem, 3);
     assert_eq!(rt; three.as_slice(), crate::brief::AT_REST);
+}
+
+/// The certificate in brief of the three, of which the third is a primary.
+const OF_THE_THIRD: &[u8] = b"CONJ-CERT 3
+WINDOW 1735689600000000 1735689660000000
+THRESHOLD 5000000000000
+OBJECTS 3
+SIZE 1 0
+SIZE 2 0
+SIZE 3 0
+PRIMARY 3
+SHELL 1 7000000000000000 7000000000000000
+SHELL 2 7001000071418368 7001000071418369
+SHELL 3 7004001142204361 7004001142204362
+CELL 2 3 1735689600000000 1735689659999999 N
+CELL 2 3 1735689660000000 1735689660000000 N
+END
+";
+
+#[test]
+fn a_certificate_in_brief_tells_its_primaries(rt: HostRuntime) {
+    let alloc = rt.alloc();
+    let third = vec![in alloc; false, false, true].expect(&rt, "no fault");
+    let problem = three_by(&rt, alloc, Primaries::marked(third));
+    let text = text_of(&rt, alloc, &problem, 2);
+    assert_eq!(rt; text.as_slice(), OF_THE_THIRD);
 }

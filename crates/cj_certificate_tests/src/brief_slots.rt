@@ -4,7 +4,7 @@ ghost use Rattle.cj_track.specs.declared.frame.Frame.TheVariants.{Eme2000};
 ghost use Rattle.cj_track.specs.Segments.{node_count};
 
 use crate::brief_checks::{place, refusal, text_of};
-use cj_case::{Problem, Sizes, Tracks};
+use cj_case::{Primaries, Problem, Sizes, Tracks};
 use cj_formats::CheckCause;
 use cj_samples::{rest, seconds, track_of};
 use cj_track::Track;
@@ -29,6 +29,7 @@ fn two(rt: &impl Abort, alloc: Global, out: u8, beside: u8) -> Problem {
         window: seconds(0, 240),
         threshold: 5_000_000_000_000,
         sizes: Sizes::new(vec![in alloc; 0, 0].expect(rt, "no fault")),
+        primaries: Primaries::all(),
     }
 }
 

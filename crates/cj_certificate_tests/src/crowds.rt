@@ -4,7 +4,7 @@ ghost use Rattle.std.specs.Prelude.{◌≡◌, ◌*◌, ◌^◌, ◌<◌, ◌≤
 ghost use Rattle.cj_track.specs.declared.frame.Frame.TheVariants.{Eme2000};
 ghost use Rattle.cj_track.specs.Segments.{node_count};
 
-use cj_case::{AxisBox, Kind, Pair, Problem, Shell, Sizes, Tracks};
+use cj_case::{AxisBox, Kind, Pair, Primaries, Problem, Shell, Sizes, Tracks};
 use cj_cert::{BoxLine, CellLine, Certificate, ShellLine, SizeOfLine};
 use cj_checker::{Answer, CheckCause, check};
 use cj_formats::CertVersion;
@@ -80,6 +80,7 @@ fn problem(rt: &impl Abort, alloc: Global, states: States, threshold: u64) -> Pr
         window: seconds(0, 59),
         threshold,
         sizes: Sizes::new(sizes),
+        primaries: Primaries::all(),
     }
 }
 

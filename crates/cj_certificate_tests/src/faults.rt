@@ -130,7 +130,7 @@ fn a_text_has_its_first_fault(rt: HostRuntime) {
 }
 
 /// Lines in front of the last, and why they may not stand there in version 1 and in version 2.
-const LINES: [(&[u8], Option<CertCause>, Option<CertCause>); 68] = [
+const LINES: [(&[u8], Option<CertCause>, Option<CertCause>); 69] = [
     (b"SIZE 1 0", Some(FORM), None),
     (b"SIZE 1 1000000000000", Some(FORM), None),
     (b"SIZE 1 1000000000001", Some(FORM), Some(RANGE)),
@@ -139,6 +139,7 @@ const LINES: [(&[u8], Option<CertCause>, Option<CertCause>); 68] = [
     (b"SIZE 2000 0", Some(FORM), None),
     (b"SIZE 2001 0", Some(FORM), Some(RANGE)),
     (b"SIZE 1", Some(FORM), Some(FORM)),
+    (b"PRIMARY 1", Some(FORM), Some(FORM)),
     (b"SHELL 1 0 1000000000000000000", None, None),
     (b"SHELL 1 0 1000000000000000001", Some(RANGE), Some(RANGE)),
     (b"SHELL 1 1 0", Some(RANGE), Some(RANGE)),

@@ -10,6 +10,8 @@ mod brief_checks;
 #[cfg(test)]
 mod brief_leaves;
 #[cfg(test)]
+mod brief_primaries;
+#[cfg(test)]
 mod brief_slots;
 #[cfg(test)]
 mod cells;

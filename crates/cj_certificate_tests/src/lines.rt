@@ -1,7 +1,7 @@
 //! The failures of lines, one kind of them at a time.
 ghost use Rattle.std.specs.Prelude.{◌≡◌, ◌≤◌, ◌≤ℤ◌, IfOk, vec_len};
 
-use cj_case::{AxisBox, Problem, Shell, Sizes, Tracks};
+use cj_case::{AxisBox, Primaries, Problem, Shell, Sizes, Tracks};
 use cj_cert::{BoxLine, Certificate, ShellLine, SizeOfLine};
 use cj_checker::{CheckCause, Failure, header_failure, hull_failure, size_failure};
 use cj_formats::CertVersion;
@@ -26,6 +26,7 @@ fn problem(alloc: Global) -> Result<Problem, AllocError> {
         window: seconds(0, 180),
         threshold: 5_000_000_000_000,
         sizes: Sizes::new(vec![in alloc; 0, 3_000_000_000, 0]?),
+        primaries: Primaries::all(),
     })
 }
 

@@ -1,8 +1,9 @@
 //! Whole certificates of four objects at rest in a row, each 4 km behind the one before, for two minutes and a tick.
 ghost use Rattle.std.specs.Prelude.{◌≡◌, ◌^◌, ◌<◌, ◌≤◌, pos, vec_len, IfOk};
 ghost use Rattle.cj_case.specs.CaseLimits.{MAX_SIZE};
+ghost use Rattle.cj_case.specs.Primaries.{marks_of};
 
-use cj_case::{AxisBox, Kind, Pair, Problem, Shell, Sizes, Tracks};
+use cj_case::{AxisBox, Kind, Pair, Primaries, Problem, Shell, Sizes, Tracks};
 use cj_cert::{BoxLine, CellLine, Certificate, ShellLine, SizeOfLine};
 use cj_checker::{Answer, CheckCause, check};
 use cj_formats::CertVersion;
@@ -18,11 +19,17 @@ fn at(x: i64) -> Vec3
     Vec3 { x, y: 0, z: 0 }
 }
 
-/// The problem with this threshold and objects of this size.
-fn problem(alloc: Global, threshold: u64, size: u64) -> Result<Problem, AllocError>
+/// The problem with this threshold, objects of this size, and these primaries.
+fn problem(
+    alloc: Global,
+    threshold: u64,
+    size: u64,
+    primaries: Primaries,
+) -> Result<Problem, AllocError>
     requires least { 10 ^ 9 ≤ threshold }
     requires most { threshold ≤ 10 ^ 15 }
     requires small { size ≤ MAX_SIZE }
+    requires marked { marks_of primaries 4 ≡ 4 }
 {
     let a = track_of(alloc, rest(alloc, 0, 120, at(7_000_000_000_000_000))?)?;
     let b = track_of(alloc, rest(alloc, 0, 120, at(7_004_000_000_000_000))?)?;
@@ -33,6 +40,7 @@ fn problem(alloc: Global, threshold: u64, size: u64) -> Result<Problem, AllocErr
         window: seconds(0, 120),
         threshold,
         sizes: Sizes::new(vec![in alloc; size, size, size, size]?),
+        primaries,
     })
 }
 
@@ -90,18 +98,20 @@ fn neighbours(alloc: Global) -> Result<Vec<CellLine>, AllocError>
     ]?)
 }
 
-/// What the checker says of a certificate with these cells, for a threshold between objects of this size. Shells begin at line 9,
-/// boxes at line 13 and cells at line 17.
+/// What the checker says of a certificate with these cells, for a threshold between objects of this size, of which some are primaries.
+/// Shells begin at line 9, boxes at line 13 and cells at line 17.
 fn answer<R: Threads + Sync>(
     rt: &R,
     alloc: Global,
     threshold: u64,
     size: u64,
+    primaries: Primaries,
     cells: Vec<CellLine>,
 ) -> Result<Answer, AllocError>
     requires least { 10 ^ 9 ≤ threshold }
     requires most { threshold ≤ 10 ^ 15 }
     requires small { size ≤ MAX_SIZE }
+    requires marked { marks_of primaries 4 ≡ 4 }
     requires few { vec_len cells ≤ 100 }
 {
     let cert = Certificate {
@@ -129,7 +139,8 @@ fn answer<R: Threads + Sync>(
         ]?,
         cells,
     };
-    check(rt, alloc, &problem(alloc, threshold, size)?, &cert, 3)
+    let problem = problem(alloc, threshold, size, primaries)?;
+    check(rt, alloc, &problem, &cert, 3)
 }
 
 /// The same for a threshold of 5 km between objects without size: neighbours are near, and others are parted by their shells.
@@ -140,7 +151,7 @@ fn of_neighbours<R: Threads + Sync>(
 ) -> Result<Answer, AllocError>
     requires { vec_len cells ≤ 100 }
 {
-    answer(rt, alloc, 5_000_000_000_000, 0, cells)
+    answer(rt, alloc, 5_000_000_000_000, 0, Primaries::all(), cells)
 }
 
 fn refused(line: u32, cause: CheckCause) -> Answer {
@@ -208,7 +219,7 @@ fn sizes_bring_the_pairs_that_just_touch(rt: HostRuntime) {
     let (threshold, size) = (6_000_000_000_000, 1_000_000_000_000);
     let cells = neighbours(alloc).expect(&rt, "no fault");
     assert_eq!(rt;
-        answer(&rt, alloc, threshold, size, cells).expect(&rt, "no fault"),
+        answer(&rt, alloc, threshold, size, Primaries::all(), cells).expect(&rt, "no fault"),
         refused(20, CheckCause::Untiled)
     );
     let cells = vec![in alloc;
@@ -230,7 +241,41 @@ fn sizes_bring_the_pairs_that_just_touch(rt: HostRuntime) {
     ]
     .expect(&rt, "no fault");
     assert_eq!(rt;
-        answer(&rt, alloc, threshold, size, cells).expect(&rt, "no fault"),
+        answer(&rt, alloc, threshold, size, Primaries::all(), cells).expect(&rt, "no fault"),
+        Answer::Accepted
+    );
+}
+
+/// The third object alone is a primary.
+fn third(alloc: Global) -> Result<Primaries, AllocError>
+    ensures { IfOk result (λ primaries. marks_of primaries 4 ≡ 4) }
+{
+    Ok(Primaries::marked(vec![in alloc; false, false, true, false]?))
+}
+
+/// The pair of the first two is not looked at then.
+#[test]
+fn cells_of_a_pair_without_a_primary_are_strangers(rt: HostRuntime) {
+    let alloc = rt.alloc();
+    let threshold = 5_000_000_000_000;
+    let cells = neighbours(alloc).expect(&rt, "no fault");
+    let primaries = third(alloc).expect(&rt, "no fault");
+    assert_eq!(rt;
+        answer(&rt, alloc, threshold, 0, primaries, cells).expect(&rt, "no fault"),
+        refused(17, CheckCause::Stranger)
+    );
+    let cells = vec![in alloc;
+        near(1, 2, 0),
+        near(1, 2, 1),
+        near(1, 2, 2),
+        near(2, 3, 0),
+        near(2, 3, 1),
+        near(2, 3, 2),
+    ]
+    .expect(&rt, "no fault");
+    let primaries = third(alloc).expect(&rt, "no fault");
+    assert_eq!(rt;
+        answer(&rt, alloc, threshold, 0, primaries, cells).expect(&rt, "no fault"),
         Answer::Accepted
     );
 }

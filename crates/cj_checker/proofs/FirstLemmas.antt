@@ -24,7 +24,7 @@ use Rattle.cj_formats.specs.declared.check_cause.CheckCause.TheVariants.{Header,
 use Rattle.cj_formats.specs.declared.cert_version.CertVersion.{CertVersion}
 use Rattle.cj_formats.specs.declared.cert_version.CertVersion.TheVariants.{One, Two}
 use Rattle.cj_checker.specs.Tests.{is_size_line, is_shell_over, is_shell_line, is_box_line, are_in_front, holds_hulls, is_supported}
-use Rattle.cj_checker.specs.First.{failed, header_failure, first_unfit, first_line, size_failure_in, size_failure, first_shell_line, shell_failure, Failure}
+use Rattle.cj_checker.specs.First.{failed, header_failure, first_unfit, first_line, size_failure_in, size_failure, first_shell_line, shell_failure, Failure, shells_from}
 use Rattle.cj_checker.specs.First.{unlisted, boxes_from, first_box_line, box_failure, begins, comes_after, behind, unsupported, cells_from, first_cell_line, cell_failure, first_failure}
 use Rattle.cj_checker.proofs.CauseLemmas.{behind_last, cells_done}
 use Rattle.cj_checker.proofs.TestLemmas.{decides_same, decides_shell, decides_holds, decides_front, decides_nat_le, decides_supported}
@@ -36,7 +36,7 @@ neither_fails None p = (λ h. (refl, h), λ both. both.1)
 neither_fails (Some f) p = (λ h. absurd cc, λ both. let wrong : ◌≡◌ {A = Option Failure} (Some f) None = both.0 in absurd cc)
 
 -- a failure where a test fails, and else another
-tested : {P : Type 0} (b : Bool) (line : ℕ) (cause : CheckCause) (o : Option Failure) → Decides b P → ((if b then o else failed line cause) ≡ None) ↔ (P × (o ≡ None))
+pub tested : {P : Type 0} (b : Bool) (line : ℕ) (cause : CheckCause) (o : Option Failure) → Decides b P → ((if b then o else failed line cause) ≡ None) ↔ (P × (o ≡ None))
 tested true line cause o d = (λ h. (d.0 refl, h), λ both. both.1)
 tested false line cause o d = (λ h. absurd cc, λ both. let wrong : false ≡ true = d.1 both.0 in absurd cc)
 
@@ -135,13 +135,16 @@ shells_law from to all n at (e ∷ es) (l ∷ lines) places =
           here.1 ((object, over), rest.1 (objects, each.1)),
     )
 
-pub shell_law : (case : PlainProblem) (c : PlainCertificate) → (shell_failure case c ≡ None) ↔ AreShells case c.shells
-shell_law case c =
-    let law = shells_law case.first case.last case.tracks 0 (first_shell_line c) case.tracks c.shells
+pub shells_from_law : (case : PlainProblem) (line : ℕ) (shells : List ShellLine) → (shells_from case line shells ≡ None) ↔ AreShells case shells
+shells_from_law case line shells =
+    let law = shells_law case.first case.last case.tracks 0 line case.tracks shells
     (λ i. let k : i ≡ 0 + i = omega arith in ap (λ (j : ℕ). slice_get case.tracks j) k) in (
-      λ h. let both = law.0 h in record { objects = both.0; hold = All-from_each (IsLineOf case.tracks case.first case.last) c.shells both.1 },
-      λ are. law.1 (are.objects, each_from_All (IsLineOf case.tracks case.first case.last) c.shells are.hold),
+      λ h. let both = law.0 h in record { objects = both.0; hold = All-from_each (IsLineOf case.tracks case.first case.last) shells both.1 },
+      λ are. law.1 (are.objects, each_from_All (IsLineOf case.tracks case.first case.last) shells are.hold),
     )
+
+pub shell_law : (case : PlainProblem) (c : PlainCertificate) → (shell_failure case c ≡ None) ↔ AreShells case c.shells
+shell_law case c = shells_from_law case (first_shell_line c) c.shells
 
 -- ---- boxes
 

@@ -1,9 +1,10 @@
+mod BothLemmas
 mod BoundLemmas
 mod BoxLemmas
 pub mod CauseLemmas
 pub mod CheckLemmas
 pub mod FirstLemmas
-mod HullBoxLemmas
+mod RowLemmas
 mod HullLemmas
 mod KeyLemmas
 mod PlaceLemmas

@@ -29,7 +29,7 @@ use Rattle.cj_cert.specs.declared.cert_lines.ShellLine.{ShellLine}
 use Rattle.cj_cert.specs.Certificates.{PlainCertificate}
 use Rattle.cj_cert.specs.Listed.{boxes_listed, is_candidate_listed}
 use Rattle.cj_checker.specs.declared.keys.Key.{Key}
-use Rattle.cj_checker.specs.Keys.{PlainKey, plain_key, HasKey, AreKeysIn, AreKeysKept, IsKeyBefore, IsKeyIn, AreInOrder, candidate_with}
+use Rattle.cj_checker.specs.Keys.{PlainKey, plain_key, HasKey, AreKeysIn, AreKeysKept, IsKeyBefore, IsKeyIn, AreInOrder, candidate_with, close_with}
 
 -- ---- one more
 
@@ -199,17 +199,17 @@ box_in boxes k box lt is =
     ap (option_and_then (λ (x : Option PlainBox). x))
     (slice_get-map (option_map plain_box) boxes k ∙ ap (option_map (option_map plain_box)) (slice_get-get_or boxes k box lt ∙ ap (λ (x : Option AxisBox). Some x) (sym is)))
 
--- whether a pair is a candidate, by its two shells and its two boxes
+-- whether a pair is close, by its two shells and its two boxes
 pub candidate_by : (case : PlainProblem) (shells : List ShellLine) (boxes : List (Option AxisBox)) (a b thr : ℕ) (s t : Option Shell) (x y : Option AxisBox)
     → thr ≡ threshold_of case a b
     → shell_in (map (λ line. line.shell) shells) a ≡ s → shell_in (map (λ line. line.shell) shells) b ≡ t
     → reaches_in (plain_boxes boxes) a ≡ option_map plain_box x → reaches_in (plain_boxes boxes) b ≡ option_map plain_box y
-    → candidate_with case (map (λ line. line.shell) shells) (plain_boxes boxes) (a, b) ≡ (are_kept thr s t && both_touch thr (option_map plain_box x) (option_map plain_box y))
+    → close_with case (map (λ line. line.shell) shells) (plain_boxes boxes) (a, b) ≡ (are_kept thr s t && both_touch thr (option_map plain_box x) (option_map plain_box y))
 candidate_by case shells boxes a b thr s t x y is sa sb ba bb = λ i. are_kept (sym is i) (sa i) (sb i) && both_touch (sym is i) (ba i) (bb i)
 
 pub not_kept : (case : PlainProblem) (shells : List ShellLine) (boxes : List (Option AxisBox)) (a b thr : ℕ) (s t : Option Shell) → thr ≡ threshold_of case a b
     → shell_in (map (λ line. line.shell) shells) a ≡ s → shell_in (map (λ line. line.shell) shells) b ≡ t → are_kept thr s t ≡ false
-    → candidate_with case (map (λ line. line.shell) shells) (plain_boxes boxes) (a, b) ≡ false
+    → close_with case (map (λ line. line.shell) shells) (plain_boxes boxes) (a, b) ≡ false
 not_kept case shells boxes a b thr s t is sa sb none =
     let touch = touch_between case.threshold case.sizes (plain_boxes boxes) (a, b) in
     (λ i. are_kept (sym is i) (sa i) (sb i) && touch) ∙ (λ i. none i && touch)

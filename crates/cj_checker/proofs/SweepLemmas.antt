@@ -19,10 +19,11 @@ use Rattle.std.proofs.lemmas.List.{get_or-drop, get_or-take, length-drop, length
 use Rattle.std.proofs.lemmas.List.Elements.{All-push}
 use Rattle.cj_case.specs.declared.pair.Pair.{Pair}
 use Rattle.cj_case.specs.Pairs.{AreBoth, ArePairsKept, HasPair, objects_of}
-use Rattle.cj_case.specs.PlainProblems.{PlainProblem, threshold_between}
+use Rattle.cj_case.specs.PlainProblems.{PlainProblem, threshold_between, threshold_of}
+use Rattle.cj_case.specs.Primaries.{concerns}
 use Rattle.cj_case.specs.declared.axis_box.AxisBox.{AxisBox}
 use Rattle.cj_case.specs.declared.shells.Shell.{Shell}
-use Rattle.cj_bezier.specs.Shells.{are_kept, keeps_between, shell_in}
+use Rattle.cj_bezier.specs.Shells.{are_kept, keeps, keeps_between, shell_in}
 use Rattle.cj_case.specs.Boxes.{PlainBox, plain_box, plain_boxes}
 use Rattle.cj_bezier.specs.SlotBoxes.{reaches_in, reaches_touch, both_touch, touch_between}
 use Rattle.cj_bezier.specs.Squares.{from_zero}
@@ -76,8 +77,8 @@ along thr s t x y kept touch axes.Radius = let both = shells_along thr s t kept 
 
 pub boxed : (case : PlainProblem) (shells : List (Option Shell)) (areas : List (Option PlainBox)) (a b : ℕ) → candidate_with case shells areas (a, b) ≡ true → AreBoxed case shells areas a b
 boxed case shells areas a b is =
-    let both = and_parts (keeps_between case.threshold case.sizes shells (a, b)) (touch_between case.threshold case.sizes areas (a, b)) is in
-    go (shell_in shells a) refl (shell_in shells b) refl (reaches_in areas a) refl (reaches_in areas b) refl both.0 both.1
+    let both = and_parts (keeps_between case.primaries case.threshold case.sizes shells (a, b)) (touch_between case.threshold case.sizes areas (a, b)) is in
+    go (shell_in shells a) refl (shell_in shells b) refl (reaches_in areas a) refl (reaches_in areas b) refl (and_parts (concerns case (a, b)) (keeps (threshold_of case a b) shells (a, b)) both.0).1 both.1
   where
     go : (s : Option Shell) → shell_in shells a ≡ s → (t : Option Shell) → shell_in shells b ≡ t
         → (o : Option PlainBox) → reaches_in areas a ≡ o → (p : Option PlainBox) → reaches_in areas b ≡ p

@@ -8,6 +8,7 @@ use Rattle.cj_hermite.specs.Roots.{roots_of}
 use Rattle.cj_case.specs.declared.kind.Kind.{Kind}
 use Rattle.cj_case.specs.declared.kind.Kind.TheVariants as kinds
 use Rattle.cj_case.specs.Leaves.{PlainLeaf}
+use Rattle.cj_cert.specs.declared.cert_lines.ShellLine.{ShellLine}
 use Rattle.cj_cert.specs.declared.cert_lines.SizeOfLine.{SizeOfLine}
 use Rattle.cj_cert.specs.Accepted.{slots_with_states}
 use Rattle.cj_cert.specs.Certificates.{PlainBoxLine, PlainCertificate}
@@ -63,8 +64,12 @@ size_failure case c = size_failure_in c.version case c.sizes
 abbrev pub first_shell_line : PlainCertificate → ℕ
 first_shell_line c = first_line + length c.sizes
 
+-- the shells, whose first stands on this line
+abbrev pub shells_from : PlainProblem → ℕ → List ShellLine → Option Failure
+shells_from case line shells = first_unfit (is_shell_line case.first case.last) ShellOf line (enumerate_from 0 case.tracks) shells
+
 abbrev pub shell_failure : PlainProblem → PlainCertificate → Option Failure
-shell_failure case c = first_unfit (is_shell_line case.first case.last) ShellOf (first_shell_line c) (enumerate_from 0 case.tracks) c.shells
+shell_failure case c = shells_from case (first_shell_line c) c.shells
 
 -- ---- boxes
 

@@ -2,14 +2,14 @@
 use Rattle.std.specs.Prelude.{◌≡◌, ℕ, ◌+◌, ◌-◌, ◌<◌, ◌≤◌, true, Bool, if◌then◌else◌, ◌&&◌, List, [], ◌∷◌, map, length, All, Option}
 use Rattle.std.specs.List.{AllPairs, Contains, flat_map, range_with_len}
 use Rattle.cj_case.specs.declared.problem.Problem.{Problem}
-use Rattle.cj_case.specs.PlainProblems.{PlainProblem}
+use Rattle.cj_case.specs.PlainProblems.{PlainProblem, threshold_of}
 use Rattle.cj_case.specs.Problems.{plain_problem}
 use Rattle.cj_case.specs.Cells.{PlainCell}
 use Rattle.cj_hermite.specs.Roots.{roots_in, slots_of}
 use Rattle.cj_case.specs.Slots.{slot_count}
 use Rattle.cj_case.specs.declared.axis_box.AxisBox.{AxisBox}
 use Rattle.cj_case.specs.declared.shells.Shell.{Shell}
-use Rattle.cj_bezier.specs.Shells.{keeps_between}
+use Rattle.cj_bezier.specs.Shells.{keeps, keeps_between}
 use Rattle.cj_case.specs.Boxes.{PlainBox, plain_boxes}
 use Rattle.cj_bezier.specs.SlotBoxes.{touch_between}
 use Rattle.cj_cert.specs.declared.cert_lines.ShellLine.{ShellLine}
@@ -90,9 +90,13 @@ AreInOrder keys = AllPairs IsKeyBefore (map plain_key keys)
 
 -- ---- the pairs of a slot
 
--- a pair is a candidate by these shells, and by these boxes of a slot
+-- these shells of a pair are not parted, and these boxes of it in a slot touch
+abbrev pub close_with : PlainProblem → List (Option Shell) → List (Option PlainBox) → ℕ × ℕ → Bool
+close_with case shells boxes pair = keeps (threshold_of case pair.0 pair.1) shells pair && touch_between case.threshold case.sizes boxes pair
+
+-- a pair is a candidate by these shells, and by these boxes of a slot: it has a primary too
 abbrev pub candidate_with : PlainProblem → List (Option Shell) → List (Option PlainBox) → ℕ × ℕ → Bool
-candidate_with case shells boxes pair = keeps_between case.threshold case.sizes shells pair && touch_between case.threshold case.sizes boxes pair
+candidate_with case shells boxes pair = keeps_between case.primaries case.threshold case.sizes shells pair && touch_between case.threshold case.sizes boxes pair
 
 -- the same, as a program keeps them
 abbrev pub looks : Problem → List ShellLine → List (Option AxisBox) → ℕ × ℕ → Bool

@@ -6,7 +6,7 @@ pub mod Walks
 pub mod BoxesRead
 pub mod Tables
 pub mod ListedBoxes
-pub mod HullBoxes
+pub mod Rows
 pub mod Answers
 pub mod Tiling
 pub mod Keys

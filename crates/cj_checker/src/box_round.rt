@@ -7,7 +7,7 @@ ghost use Rattle.cj_case.specs.Boxes.{plain_box};
 ghost use Rattle.cj_case.specs.Slots.{slot_first, slot_last};
 ghost use Rattle.cj_bezier.specs.Sizes.{HULL_REACH};
 ghost use Rattle.cj_bezier.specs.SlotBoxes.{box_of};
-ghost use Rattle.cj_checker.specs.HullBoxes.{reaches_of_spans};
+ghost use Rattle.cj_bezier.specs.JoinedBoxes.{reaches_of_spans};
 ghost use Rattle.cj_checker.specs.Walks.{IsWalk};
 
 use crate::course::Course;

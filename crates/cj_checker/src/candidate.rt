@@ -1,11 +1,11 @@
-//! Whether a pair is a candidate: its listed shells are not parted, and its boxes in a slot touch.
+//! Whether a pair is a candidate: it has a primary, its listed shells are not parted, and its boxes in a slot touch.
 ghost use Rattle.std.specs.Prelude.{◌≡◌, ◌+◌, ◌<◌, ◌&&◌, pos, ◌+ℤ◌, int_le, map, length, option_map};
 ghost use Rattle.cj_case.specs.Pairs.{objects_of};
 ghost use Rattle.cj_case.specs.Problems.{plain_problem};
 ghost use Rattle.cj_bezier.specs.Shells.{are_kept as not_parted};
 ghost use Rattle.cj_bezier.specs.SlotBoxes.{are_touching, both_touch as they_touch};
 ghost use Rattle.cj_case.specs.Boxes.{plain_box, plain_boxes};
-ghost use Rattle.cj_checker.specs.Keys.{candidate_with};
+ghost use Rattle.cj_checker.specs.Keys.{candidate_with, close_with};
 
 use cj_case::{AxisBox, Pair, Problem, Shell};
 use cj_cert::ShellLine;
@@ -66,6 +66,16 @@ pub(crate) fn is_candidate(
     requires shells { length shells.now ≡ length problem.now.tracks }
     requires boxes { length boxes.now ≡ length problem.now.tracks }
     ensures { result ≡ candidate_with (plain_problem problem.now) (map (λ line. line.shell) shells.now) (plain_boxes boxes.now) (objects_of pair) }
+{
+    problem.primaries.concern(pair) && are_close(problem, shells, boxes, pair)
+}
+
+/// Whether the listed shells of a pair are not parted, and its boxes touch.
+fn are_close(problem: &Problem, shells: &[ShellLine], boxes: &[Option<AxisBox>], pair: Pair) -> bool
+    requires exists { pair.b < length problem.now.tracks }
+    requires shells { length shells.now ≡ length problem.now.tracks }
+    requires boxes { length boxes.now ≡ length problem.now.tracks }
+    ensures { result ≡ close_with (plain_problem problem.now) (map (λ line. line.shell) shells.now) (plain_boxes boxes.now) (objects_of pair) }
 {
     let thr = problem.pair_threshold(pair);
     let (a, b) = (pair.a as usize, pair.b as usize);

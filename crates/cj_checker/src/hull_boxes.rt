@@ -5,7 +5,7 @@ ghost use Rattle.cj_hermite.specs.Boxes.{IsBoxWithin};
 ghost use Rattle.cj_bezier.specs.Hulls.{axes_of};
 ghost use Rattle.cj_bezier.specs.Sizes.{HULL_REACH};
 ghost use Rattle.cj_bezier.specs.SlotBoxes.{round_two};
-ghost use Rattle.cj_checker.specs.HullBoxes.{reaches_of_hull, reaches_of_spans};
+ghost use Rattle.cj_bezier.specs.JoinedBoxes.{reaches_of_hull, reaches_of_spans};
 
 use cj_bezier::Hull;
 use cj_hermite::Box3;

@@ -4,7 +4,7 @@ ghost use Rattle.cj_track.specs.Tracks.{plain_track};
 ghost use Rattle.cj_case.specs.Boxes.{plain_boxes};
 ghost use Rattle.cj_case.specs.Problems.{plain_problem};
 ghost use Rattle.cj_bezier.specs.AllBoxes.{boxes_over};
-ghost use Rattle.cj_checker.specs.HullBoxes.{plain_row, row_at, row_of};
+ghost use Rattle.cj_checker.specs.Rows.{plain_row, row_at, row_of};
 ghost use Rattle.cj_checker.specs.Walks.{IsWalk};
 
 use crate::box_round::box_of_hulls;

@@ -5,7 +5,7 @@ ghost use Rattle.cj_track.specs.Segments.{node_count};
 
 use crate::writing_messages::{matrix, node, stamp, tick};
 use cj_base::{Decimal, Text, Tick, Window};
-use cj_case::{Pair, Problem, Sizes, Tracks};
+use cj_case::{Pair, Primaries, Problem, Sizes, Tracks};
 use cj_cdm::{CovarianceIndex, read_cdm};
 use cj_epoch::leap_between;
 use cj_kvn::read_decimal;
@@ -106,6 +106,7 @@ fn problem(alloc: Global, a: Segments, b: Segments) -> Result<Problem, AllocErro
         },
         threshold: 5_000_000_000_000,
         sizes: Sizes::new(vec![in alloc; 0, 0]?),
+        primaries: Primaries::all(),
     })
 }
 

@@ -3,7 +3,7 @@ ghost use Rattle.cj_track.specs.Labels.{is_file_name};
 ghost use Rattle.cj_track.specs.Segments.{node_count};
 
 use cj_base::{Text, Tick, Window};
-use cj_case::{Cell, Closest, Kind, Leaf, Pair, Problem, Sizes, Tracks};
+use cj_case::{Cell, Closest, Kind, Leaf, Pair, Primaries, Problem, Sizes, Tracks};
 use cj_epoch::leap_between;
 use cj_meet::encounters;
 use cj_report::{Tells, changed_summary_text, changed_text, push_uncovered, report_text};
@@ -118,6 +118,7 @@ fn problem(rt: &impl Abort, alloc: Global) -> Result<Problem, AllocError> {
         },
         threshold: 5_000_000_000_000,
         sizes: Sizes::new(vec![in alloc; 1_500_000_000, 0]?),
+        primaries: Primaries::all(),
     })
 }
 

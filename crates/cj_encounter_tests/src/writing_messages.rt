@@ -6,7 +6,7 @@ ghost use Rattle.cj_track.specs.Segments.{node_count};
 
 use crate::expected::crossing;
 use cj_base::{Decimal, Text, Tick, Window};
-use cj_case::{Pair, Problem, Sizes, Tracks};
+use cj_case::{Pair, Primaries, Problem, Sizes, Tracks};
 use cj_cdm::{CovarianceIndex, Stamp};
 use cj_epoch::leap_between;
 use cj_kvn::read_decimal;
@@ -150,6 +150,7 @@ fn problem(
         },
         threshold: 5_000_000_000_000,
         sizes: Sizes::new(vec![in alloc; 0, 0]?),
+        primaries: Primaries::all(),
     })
 }
 

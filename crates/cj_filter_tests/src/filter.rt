@@ -3,7 +3,7 @@ ghost use Rattle.cj_base.specs.Bounds.{MOST_OBJECTS};
 ghost use Rattle.cj_case.specs.CaseLimits.{MAX_SIZE};
 
 use cj_base::Window;
-use cj_case::{Pair, Shell};
+use cj_case::{Pair, Primaries, Shell};
 use cj_samples::{AT_7000, AT_7100, along_y, rest, seconds, track_of_two};
 use cj_sieve::{ShelledObjects, count_kept, kept_pairs, parted, shell};
 use cj_track::Track;
@@ -116,10 +116,12 @@ fn kept_pairs_come_in_order(rt: HostRuntime) {
         Pair { a: 0, b: 4 },
         Pair { a: 2, b: 4 },
     ];
-    let kept = kept_pairs(rt.alloc(), &shells, &[0; 6], THRESHOLD).expect(&rt, "no fault");
+    let kept = kept_pairs(rt.alloc(), &shells, &[0; 6], &Primaries::all(), THRESHOLD).expect(
+        &rt, "no fault",
+    );
     assert_eq!(rt; kept.as_slice(), expected.as_slice());
     assert!(rt;
-        kept_pairs(rt.alloc(), &[], &[], THRESHOLD)
+        kept_pairs(rt.alloc(), &[], &[], &Primaries::all(), THRESHOLD)
             .expect(&rt, "no fault")
             .is_empty()
     );
@@ -167,6 +169,7 @@ fn kept_in_turn<R: Threads + Sync>(
     let objects = ShelledObjects {
         shells: &shells,
         sizes: &sizes,
+        primaries: &Primaries::all(),
         thr: THRESHOLD,
     };
     count_kept(rt, alloc, &objects, workers)
@@ -200,7 +203,13 @@ fn kept_with(alloc: Global, sizes: &[u64; 3]) -> Result<Vec<Pair>, AllocError>
 {
     let low = Some(thin(7_000_000_000_000_000));
     let high = Some(thin(7_005_003_000_000_000));
-    kept_pairs(alloc, &[low, high, low], sizes, THRESHOLD)
+    kept_pairs(
+        alloc,
+        &[low, high, low],
+        sizes,
+        &Primaries::all(),
+        THRESHOLD,
+    )
 }
 
 /// The radii of two objects bridge three metres, or a nanometre less than that.

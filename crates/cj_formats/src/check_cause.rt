@@ -7,6 +7,8 @@ pub enum CheckCause {
     Header,
     /// The size of an object is not the one given.
     SizeOf,
+    /// The primaries are not those that are named.
+    PrimaryOf,
     /// The radii of an object are not shown by its hulls, or its line does not stand in its place.
     ShellOf,
     /// The hulls of an object reach out of its box, or the line of a box does not stand in its place.

@@ -7,6 +7,7 @@ mod cert_format;
 mod cert_version;
 mod check_cause;
 mod oem_cause;
+mod primaries_cause;
 mod sizes_cause;
 
 pub use cert_cause::CertCause;
@@ -14,4 +15,5 @@ pub use cert_format::CertFormat;
 pub use cert_version::CertVersion;
 pub use check_cause::CheckCause;
 pub use oem_cause::OemCause;
+pub use primaries_cause::PrimariesCause;
 pub use sizes_cause::SizesCause;

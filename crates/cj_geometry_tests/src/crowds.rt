@@ -5,7 +5,7 @@ ghost use Rattle.cj_case.specs.CaseLimits.{node_total};
 ghost use Rattle.cj_track.specs.declared.frame.Frame.TheVariants.{Eme2000};
 ghost use Rattle.cj_track.specs.Segments.{node_count};
 
-use cj_case::{Problem, Sizes, Tracks};
+use cj_case::{Primaries, Problem, Sizes, Tracks};
 use cj_samples::{rest, seconds, track_of};
 use cj_track::{Track, Vec3};
 use std::alloc::{AllocError, Global};
@@ -50,6 +50,7 @@ fn crowd(alloc: Global, count: u32) -> Result<Problem, AllocError>
         window: seconds(0, 59),
         threshold: 5_000_000_000_000,
         sizes,
+        primaries: Primaries::all(),
     })
 }
 

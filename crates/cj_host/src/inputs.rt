@@ -7,13 +7,14 @@ ghost use Rattle.cj_words.specs.Settings.{plain_settings};
 
 use cj_words::{Command, Settings, Word, read_command};
 
-/// The files of a directory that a run reads: those whose names end with the suffix or with the update suffix, the one of sizes, and the report
-/// that is checked.
+/// The files of a directory that a run reads: those whose names end with the suffix or with the update suffix, those of sizes and of
+/// primaries, and the report that is checked.
 #[derive(Clone, Copy, Debug, PartialEq, Eq)]
 pub struct Inputs<'w> {
     suffix: Option<&'w [u8]>,
     update: Option<&'w [u8]>,
     sizes: Option<&'w [u8]>,
+    primaries: Option<&'w [u8]>,
     report: Option<&'w [u8]>,
 }
 
@@ -26,6 +27,7 @@ impl<'w> Inputs<'w> {
             suffix: None,
             update: None,
             sizes: None,
+            primaries: None,
             report: None,
         }
     }
@@ -66,6 +68,7 @@ impl<'w> Inputs<'w> {
             suffix: Some(settings.suffix),
             update,
             sizes: settings.sizes,
+            primaries: settings.primaries,
             report,
         }
     }
@@ -77,6 +80,7 @@ impl<'w> Inputs<'w> {
         has_suffix(self.suffix, name)
             || has_suffix(self.update, name)
             || has_name(self.sizes, name)
+            || has_name(self.primaries, name)
             || has_name(self.report, name)
     }
 }

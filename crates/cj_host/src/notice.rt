@@ -242,6 +242,9 @@ Options of screen, rescreen, check and rewrite:
   --sizes NAME        file of DIR with the radius of each object in metres:
                       the threshold is then measured from surface to surface
                       (default: all objects are points)
+  --primaries NAME    file of DIR with designators, one a line: only pairs
+                      with one of these objects are looked at, and the
+                      certificate is in brief (default: all pairs)
   --brief             the certificate is in brief, that is, in version 3: it
                       leaves out what is far throughout; not with
                       --cert-version (default: in full)
@@ -260,7 +263,7 @@ Options of screen and rescreen:
   --originator TEXT   who makes messages, 1 to 40 letters, digits, _ and -
                       (default CONJ)
   --cert-version N    the version of the certificate, 1 or 2 (default 1);
-                      not with --brief or --large
+                      not with --brief, --large or --primaries
   --rtn               add six lines to each message: place and velocity of the
                       second object less those of the first, along the radial,
                       transverse and normal axes of the first
@@ -311,7 +314,7 @@ Exit status:
   0  done
   1  the certificate is not accepted, or the report
   2  usage: the words are not as above, or a value is out of its range
-  3  an ephemeris or the file of sizes was refused
+  3  an ephemeris, or the file of sizes or of primaries, was refused
   4  a file of DIR could not be read
   5  a result could not be written
   6  a limit was exceeded

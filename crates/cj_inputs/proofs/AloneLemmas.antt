@@ -1,5 +1,5 @@
 -- Files that are read one after another, each for itself.
-use Rattle.std.proofs.Common.{◌≡◌, ℕ, suc, ◌+◌, ◌<◌, Bool, List, [], ◌∷◌, ◌++◌, length, map, drop, add-one, drop-cons, get_or, None, Ok, Err, Result, refl, sym, ap, subst, ◌∙◌}
+use Rattle.std.proofs.Common.{◌≡◌, ℕ, suc, ◌+◌, ◌<◌, Bool, List, [], ◌∷◌, ◌++◌, length, map, drop, add-one, drop-cons, get_or, Ok, Err, Result, refl, sym, ap, subst, ◌∙◌}
 use Rattle.std.proofs.lemmas.List.{map-append}
 use Rattle.cj_base.specs.Limits.{PlainLimits}
 use Rattle.cj_io.specs.declared.file.FileBytes.{FileBytes}
@@ -19,7 +19,7 @@ use Rattle.cj_inputs.specs.declared.reading.InputError.TheVariants as input
 use Rattle.cj_inputs.specs.Alone.{reading_alone, readings_alone, tracks_asked}
 use Rattle.cj_inputs.specs.Batches.{WasRead, said_by}
 use Rattle.cj_inputs.specs.Cases.{within_objects}
-use Rattle.cj_inputs.specs.InputFiles.{inputs_of}
+use Rattle.cj_inputs.specs.InputFiles.{inputs_of, none_apart}
 use Rattle.cj_inputs.specs.Readings.{Reads, reading_of, refused_of, within_bytes, within_nodes}
 use Rattle.cj_inputs.proofs.BatchLemmas.{reads_wider}
 use Rattle.cj_inputs.proofs.ReadingLemmas.{reads_on}
@@ -107,19 +107,19 @@ file_taken as_hermite3 most files tracks all entries i entry track below is read
 
 -- the files that are taken are not listed
 pub lone_entries_fail : (rose : Type 0) (limits : PlainLimits) (files : List FileBytes) (thinning : PlainThinning) (names : List Name) (s : Status) → names ≡ names_of files
-    → Stops ⊥ s (within_objects limits.objects (inputs_of thinning.suffix None names)) → Stops rose s (tracks_asked limits files thinning)
+    → Stops ⊥ s (within_objects limits.objects (inputs_of thinning.suffix none_apart names)) → Stops rose s (tracks_asked limits files thinning)
 unfolding tracks_asked
 lone_entries_fail rose limits files thinning names s known stops =
-    stops_behind ⊥ rose s (within_objects limits.objects (inputs_of thinning.suffix None (names_of files)))
+    stops_behind ⊥ rose s (within_objects limits.objects (inputs_of thinning.suffix none_apart (names_of files)))
     (λ entries. readings_alone thinning.as_hermite3 limits.nodes files [] entries)
-    (λ none. absurd none) (subst (λ (ns : List Name). Stops ⊥ s (within_objects limits.objects (inputs_of thinning.suffix None ns))) known stops)
+    (λ none. absurd none) (subst (λ (ns : List Name). Stops ⊥ s (within_objects limits.objects (inputs_of thinning.suffix none_apart ns))) known stops)
 
 -- they are: the rest
 pub lone_entries : (limits : PlainLimits) (files : List FileBytes) (thinning : PlainThinning) (names : List Name) (entries : List Entry) → names ≡ names_of files
-    → within_objects limits.objects (inputs_of thinning.suffix None names) ≡ Ok entries
+    → within_objects limits.objects (inputs_of thinning.suffix none_apart names) ≡ Ok entries
     → tracks_asked limits files thinning ≡ readings_alone thinning.as_hermite3 limits.nodes files [] entries
 unfolding tracks_asked
 lone_entries limits files thinning names entries known taken =
-    let listed : within_objects limits.objects (inputs_of thinning.suffix None (names_of files)) ≡ Ok entries =
-    subst (λ (ns : List Name). within_objects limits.objects (inputs_of thinning.suffix None ns) ≡ Ok entries) known taken in
+    let listed : within_objects limits.objects (inputs_of thinning.suffix none_apart (names_of files)) ≡ Ok entries =
+    subst (λ (ns : List Name). within_objects limits.objects (inputs_of thinning.suffix none_apart ns) ≡ Ok entries) known taken in
     rw listed refl

@@ -15,7 +15,6 @@ use Rattle.cj_oem.proofs.GrammarLemmas.{reading_says}
 use Rattle.cj_case.specs.PlainProblems.{PlainProblem}
 use Rattle.cj_case.specs.declared.problem.Problem.{Problem}
 use Rattle.cj_case.specs.Problems.{plain_problem}
-use Rattle.cj_sizes.specs.Sizes.{Size}
 use Rattle.cj_trim.specs.Same.{HasRun, IsSameWithin}
 use Rattle.cj_trim.proofs.SameLemmas.{Rise, FromTo, IsSound, last_of, same_within}
 use Rattle.cj_words.specs.Settings.{PlainSettings}
@@ -26,8 +25,8 @@ use Rattle.cj_status.specs.Steps.{◌>>=◌, Gives}
 use Rattle.cj_inputs.specs.declared.input_files.Entry.{Entry}
 use Rattle.cj_inputs.specs.Cases.{case_asked, case_of_run, within_limits, within_objects}
 use Rattle.cj_inputs.specs.FromFiles.{IsFromFile, AreFromFiles}
-use Rattle.cj_inputs.specs.InputFiles.{inputs_of}
-use Rattle.cj_inputs.specs.ObjectSizes.{sizes_asked}
+use Rattle.cj_inputs.specs.InputFiles.{apart_of, inputs_of}
+use Rattle.cj_inputs.specs.ObjectAttributes.{PlainAttributes, attributes_asked}
 use Rattle.cj_inputs.specs.Readings.{reading_of, readings_of, refused_of, within_bytes}
 use Rattle.cj_inputs.specs.Trims.{both_ends, left_of, trims_of}
 use Rattle.cj_inputs.specs.Windows.{least, greatest, start_of, stop_of}
@@ -120,13 +119,13 @@ case_from_files : (files : List FileBytes) (settings : PlainSettings) (case : Pl
 unfolding case_asked
 case_from_files files settings case is =
     let limits = settings.limits in
-    let entries = inputs_of settings.suffix settings.sizes (names_of files) in
-    let made : List PlainTrack → List Size → PlainProblem = case_of_run settings in
-    let sized : List PlainTrack → Result PlainProblem Status = λ es. sizes_asked files settings.sizes >>= λ sizes. within_limits limits.object_slots (made es sizes) in
-    let listed = step_there (within_objects limits.objects entries) (λ some. readings_of settings files some >>= sized) case is in
+    let entries = inputs_of settings.suffix (apart_of settings) (names_of files) in
+    let made : List PlainTrack → PlainAttributes → PlainProblem = case_of_run settings in
+    let beside : List PlainTrack → Result PlainProblem Status = λ es. attributes_asked es [] files settings >>= λ said. within_limits limits.object_slots (made es said) in
+    let listed = step_there (within_objects limits.objects entries) (λ some. readings_of settings files some >>= beside) case is in
     let few = let_through (length entries) limits.objects entries listed.0 (status.Limit (Objects (length entries))) listed.1 in
-    let read = step_there (readings_of settings files listed.0) sized case listed.2 in
-    let told = step_there (sizes_asked files settings.sizes) (λ sizes. within_limits limits.object_slots (made read.0 sizes)) case read.2 in
+    let read = step_there (readings_of settings files listed.0) beside case listed.2 in
+    let told = step_there (attributes_asked read.0 [] files settings) (λ said. within_limits limits.object_slots (made read.0 said)) case read.2 in
     let there = within_there limits.object_slots (made read.0 told.0) case told.2 in
     let all = files_read settings files [] read.0 listed.0 (none_good limits.nodes) read.1 in
     let each : AllZip (IsRead settings files) entries read.0 =

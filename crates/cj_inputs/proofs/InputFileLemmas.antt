@@ -1,6 +1,6 @@
 -- The order of a folder's entries.
 use Rattle.std.proofs.Common.{◌≡◌, ◌∙◌, ap, sym, ℕ, zero, suc, ◌+◌, ◌<◌, ◌≤◌, List, [], ◌∷◌, ◌++◌}
-use Rattle.std.proofs.Common.{length, drop, add-one, drop-cons, append_assoc, Bool, true, false, cond, Option, Some, get_or, arith, refl}
+use Rattle.std.proofs.Common.{length, drop, add-one, drop-cons, append_assoc, Bool, true, false, cond, Some, get_or, arith, refl}
 use Rattle.std.specs.Prelude.{All, slice_get}
 use Rattle.std.specs.List.{AllByRecursion}
 use Rattle.std.proofs.lemmas.List.Elements.{All-from_recursion}
@@ -13,7 +13,7 @@ use Rattle.cj_inputs.specs.declared.input_files.Entry.{Entry}
 use Rattle.std.specs.declared.cmp.Ordering.{Ordering}
 use Rattle.std.specs.Ordering.{is_lt}
 use Rattle.cj_inputs.specs.Orders.{inserted, sorted}
-use Rattle.cj_inputs.specs.InputFiles.{entry_cmp, entries_from, is_taken, inputs_of}
+use Rattle.cj_inputs.specs.InputFiles.{PlainApart, entry_cmp, entries_from, is_taken, inputs_of}
 
 pub entries_total : IsTotalOrder entry_cmp
 entries_total = then_total (on_total (λ (e : Entry). e.name) nat_list_cmp_total) (on_total (λ (e : Entry). e.number) nat_cmp_total)
@@ -36,19 +36,19 @@ length_sorted : {K : Type 0} (R : K → K → Ordering) (xs : List K) → length
 length_sorted R [] = refl
 length_sorted R (x ∷ xs) = omega (arith, length_inserted R x (sorted R xs), length_sorted R xs)
 
-length_entries : (suffix : List ℕ) (sizes : Option (List ℕ)) (n : ℕ) (names : List (List ℕ)) → length (entries_from suffix sizes n names) ≤ length names
-length_entries suffix sizes n [] = omega arith
-length_entries suffix sizes n (name ∷ names) = chosen (is_taken suffix sizes name) (length_entries suffix sizes (n + 1) names)
+length_entries : (suffix : List ℕ) (apart : PlainApart) (n : ℕ) (names : List (List ℕ)) → length (entries_from suffix apart n names) ≤ length names
+length_entries suffix apart n [] = omega arith
+length_entries suffix apart n (name ∷ names) = chosen (is_taken suffix apart name) (length_entries suffix apart (n + 1) names)
   where
-    chosen : (b : Bool) → length (entries_from suffix sizes (n + 1) names) ≤ length names
-        → length (cond b (record { name = name; number = n } ∷ entries_from suffix sizes (n + 1) names) (entries_from suffix sizes (n + 1) names)) ≤ length (name ∷ names)
+    chosen : (b : Bool) → length (entries_from suffix apart (n + 1) names) ≤ length names
+        → length (cond b (record { name = name; number = n } ∷ entries_from suffix apart (n + 1) names) (entries_from suffix apart (n + 1) names)) ≤ length (name ∷ names)
     chosen true h = omega arith
     chosen false h = omega arith
 
 -- no more files are taken than there are
-pub few_inputs : (suffix : List ℕ) (sizes : Option (List ℕ)) (names : List (List ℕ)) → length (inputs_of suffix sizes names) ≤ length names
+pub few_inputs : (suffix : List ℕ) (apart : PlainApart) (names : List (List ℕ)) → length (inputs_of suffix apart names) ≤ length names
 unfolding inputs_of
-few_inputs suffix sizes names = omega (arith, length_sorted entry_cmp (entries_from suffix sizes 0 names), length_entries suffix sizes 0 names)
+few_inputs suffix apart names = omega (arith, length_sorted entry_cmp (entries_from suffix apart 0 names), length_entries suffix apart 0 names)
 
 -- an entry has the name that stands at its number
 abbrev pub Stands : List (List ℕ) → Entry → Type 0
@@ -66,30 +66,30 @@ stands_sorted : (names : List (List ℕ)) (xs : List Entry) → AllByRecursion (
 stands_sorted names [] all = tt
 stands_sorted names (x ∷ xs) all = stands_inserted names x (sorted entry_cmp xs) all.0 (stands_sorted names xs all.1)
 
-stands_entries : (suffix : List ℕ) (sizes : Option (List ℕ)) (all : List (List ℕ)) (n : ℕ) (names : List (List ℕ)) → ((i : ℕ) → slice_get names i ≡ slice_get all (n + i))
-    → AllByRecursion (Stands all) (entries_from suffix sizes n names)
-stands_entries suffix sizes all n [] places = tt
-stands_entries suffix sizes all n (name ∷ names) places =
-    chosen (is_taken suffix sizes name) (stands_entries suffix sizes all (n + 1) names (λ i. let k : n + suc i ≡ n + 1 + i = omega arith in places (suc i) ∙ ap (slice_get all) k))
+stands_entries : (suffix : List ℕ) (apart : PlainApart) (all : List (List ℕ)) (n : ℕ) (names : List (List ℕ)) → ((i : ℕ) → slice_get names i ≡ slice_get all (n + i))
+    → AllByRecursion (Stands all) (entries_from suffix apart n names)
+stands_entries suffix apart all n [] places = tt
+stands_entries suffix apart all n (name ∷ names) places =
+    chosen (is_taken suffix apart name) (stands_entries suffix apart all (n + 1) names (λ i. let k : n + suc i ≡ n + 1 + i = omega arith in places (suc i) ∙ ap (slice_get all) k))
   where
     here : slice_get all n ≡ Some name
     here = let k : n + 0 ≡ n = omega arith in ap (slice_get all) (sym k) ∙ sym (places 0)
 
-    chosen : (b : Bool) → AllByRecursion (Stands all) (entries_from suffix sizes (n + 1) names)
-        → AllByRecursion (Stands all) (cond b (record { name = name; number = n } ∷ entries_from suffix sizes (n + 1) names) (entries_from suffix sizes (n + 1) names))
+    chosen : (b : Bool) → AllByRecursion (Stands all) (entries_from suffix apart (n + 1) names)
+        → AllByRecursion (Stands all) (cond b (record { name = name; number = n } ∷ entries_from suffix apart (n + 1) names) (entries_from suffix apart (n + 1) names))
     chosen true later = (here, later)
     chosen false later = later
 
 -- each that is taken is one of the folder's
-pub inputs_stand : (suffix : List ℕ) (sizes : Option (List ℕ)) (names : List (List ℕ)) → AllByRecursion (Stands names) (inputs_of suffix sizes names)
+pub inputs_stand : (suffix : List ℕ) (apart : PlainApart) (names : List (List ℕ)) → AllByRecursion (Stands names) (inputs_of suffix apart names)
 unfolding inputs_of
-inputs_stand suffix sizes names =
-    stands_sorted names (entries_from suffix sizes 0 names) (stands_entries suffix sizes names 0 names (λ i. ap (slice_get names) (omega arith)))
+inputs_stand suffix apart names =
+    stands_sorted names (entries_from suffix apart 0 names) (stands_entries suffix apart names 0 names (λ i. ap (slice_get names) (omega arith)))
 
-pub numbers_of_inputs : (suffix : List ℕ) (sizes : Option (List ℕ)) (names : List (List ℕ)) → All (λ e. e.number < length names) (inputs_of suffix sizes names)
-numbers_of_inputs suffix sizes names i d below =
-    let here = All-from_recursion (Stands names) (inputs_of suffix sizes names) (inputs_stand suffix sizes names) i d below in
-    below_of names (get_or (inputs_of suffix sizes names) i d).number (get_or (inputs_of suffix sizes names) i d).name here
+pub numbers_of_inputs : (suffix : List ℕ) (apart : PlainApart) (names : List (List ℕ)) → All (λ e. e.number < length names) (inputs_of suffix apart names)
+numbers_of_inputs suffix apart names i d below =
+    let here = All-from_recursion (Stands names) (inputs_of suffix apart names) (inputs_stand suffix apart names) i d below in
+    below_of names (get_or (inputs_of suffix apart names) i d).number (get_or (inputs_of suffix apart names) i d).name here
   where
     below_of : (xs : List (List ℕ)) (n : ℕ) (name : List ℕ) → slice_get xs n ≡ Some name → n < length xs
     below_of [] n name h = absurd cc
@@ -103,15 +103,15 @@ pub next_name : (names : List (List ℕ)) (i : ℕ) (name : List ℕ) → i < le
 next_name names i name below is = rw (add-one i) (drop-cons names i name below ∙ ap (λ (n : List ℕ). n ∷ drop (suc i) names) (sym is))
 
 -- a name that is taken
-pub entry_taken : (suffix : List ℕ) (sizes : Option (List ℕ)) (number : ℕ) (name : List ℕ) (rest : List (List ℕ)) (before : List Entry)
-    → is_taken suffix sizes name ≡ true
-    → (before ++ record { name = name; number = number } ∷ []) ++ entries_from suffix sizes (number + 1) rest
-    ≡ before ++ entries_from suffix sizes number (name ∷ rest)
-entry_taken suffix sizes number name rest before taken =
-    append_assoc before (record { name = name; number = number } ∷ []) (entries_from suffix sizes (number + 1) rest) ∙ rw taken refl
+pub entry_taken : (suffix : List ℕ) (apart : PlainApart) (number : ℕ) (name : List ℕ) (rest : List (List ℕ)) (before : List Entry)
+    → is_taken suffix apart name ≡ true
+    → (before ++ record { name = name; number = number } ∷ []) ++ entries_from suffix apart (number + 1) rest
+    ≡ before ++ entries_from suffix apart number (name ∷ rest)
+entry_taken suffix apart number name rest before taken =
+    append_assoc before (record { name = name; number = number } ∷ []) (entries_from suffix apart (number + 1) rest) ∙ rw taken refl
 
 -- one that is not
-pub entry_left : (suffix : List ℕ) (sizes : Option (List ℕ)) (number : ℕ) (name : List ℕ) (rest : List (List ℕ)) (before : List Entry)
-    → is_taken suffix sizes name ≡ false
-    → before ++ entries_from suffix sizes (number + 1) rest ≡ before ++ entries_from suffix sizes number (name ∷ rest)
-entry_left suffix sizes number name rest before left = rw left refl
+pub entry_left : (suffix : List ℕ) (apart : PlainApart) (number : ℕ) (name : List ℕ) (rest : List (List ℕ)) (before : List Entry)
+    → is_taken suffix apart name ≡ false
+    → before ++ entries_from suffix apart (number + 1) rest ≡ before ++ entries_from suffix apart number (name ∷ rest)
+entry_left suffix apart number name rest before left = rw left refl

@@ -7,6 +7,7 @@ pub mod FrameLemmas
 pub mod FromFileLemmas
 pub mod InputFileLemmas
 pub mod PlaceLemmas
+pub mod PrimaryLemmas
 pub mod ReadingLemmas
 pub mod SortLemmas
 pub mod StepLemmas

@@ -1,5 +1,5 @@
 -- How the parts of a run end.
-use Rattle.std.proofs.Common.{◌≡◌, ℕ, ◌*◌, ◌-◌, ◌<◌, ◌≤◌, List, length, true, false, Option, Some, Result, Ok, Err, refl, sym, ap, subst, ◌∙◌, arith}
+use Rattle.std.proofs.Common.{◌≡◌, ℕ, [], Bool, ◌*◌, ◌-◌, ◌<◌, ◌≤◌, List, length, true, false, Option, Some, Result, Ok, Err, refl, sym, ap, subst, ◌∙◌, arith}
 use Rattle.std.specs.Prelude.{nat_le}
 use Rattle.std.proofs.lemmas.Bool.Decides.{nat_tests}
 use Rattle.cj_io.specs.declared.file.FileBytes.{FileBytes}
@@ -9,7 +9,6 @@ use Rattle.cj_io.specs.declared.name.Name.{Name}
 use Rattle.cj_io.specs.Files.{names_of}
 use Rattle.cj_case.specs.PlainProblems.{PlainProblem}
 use Rattle.cj_track.specs.PlainTracks.{PlainTrack}
-use Rattle.cj_sizes.specs.Sizes.{Size}
 use Rattle.cj_words.specs.Limits.{most_certificate_bytes}
 use Rattle.cj_words.specs.Settings.{PlainSettings}
 use Rattle.cj_status.specs.declared.status.Status.{Status}
@@ -18,8 +17,10 @@ use Rattle.cj_status.specs.declared.status.LimitFault.TheVariants.{Objects, Wind
 use Rattle.cj_inputs.specs.declared.reading.InputError.{InputError}
 use Rattle.cj_inputs.specs.declared.reading.InputError.TheVariants as input
 use Rattle.cj_inputs.specs.declared.input_files.Entry.{Entry}
-use Rattle.cj_inputs.specs.InputFiles.{inputs_of}
-use Rattle.cj_inputs.specs.ObjectSizes.{first_named, object_sizes, sizes_asked}
+use Rattle.cj_inputs.specs.InputFiles.{apart_of, inputs_of}
+use Rattle.cj_inputs.specs.ObjectAttributes.{PlainAttributes, attributes_asked}
+use Rattle.cj_inputs.specs.ObjectPrimaries.{object_primaries}
+use Rattle.cj_inputs.specs.ObjectSizes.{first_named, object_sizes}
 use Rattle.cj_inputs.specs.Windows.{window_first, window_last}
 use Rattle.cj_status.specs.Steps.{◌>>=◌, ComesBetween, Stops, Gives}
 use Rattle.cj_inputs.specs.Readings.{readings_of, Reads}
@@ -82,20 +83,20 @@ few_enough most entries asked same few =
 
 -- the rest, once the files are known
 pub asked_of_entries : (files : List FileBytes) (settings : PlainSettings) (entries : List Entry)
-    → within_objects settings.limits.objects (inputs_of settings.suffix settings.sizes (names_of files)) ≡ Ok entries
-    → case_asked files settings ≡ (readings_of settings files entries >>= λ es. sizes_asked files settings.sizes >>= λ sizes. within_limits settings.limits.object_slots (case_of_run settings es sizes))
+    → within_objects settings.limits.objects (inputs_of settings.suffix (apart_of settings) (names_of files)) ≡ Ok entries
+    → case_asked files settings ≡ (readings_of settings files entries >>= λ es. attributes_asked es [] files settings >>= λ said. within_limits settings.limits.object_slots (case_of_run settings es said))
 unfolding case_asked
 asked_of_entries files settings entries taken = rw taken refl
 
 -- the files that are taken are not listed
 pub entries_fail : (rose : Type 0) (files : List FileBytes) (settings : PlainSettings) (names : List Name) (s : Status) → names ≡ names_of files
-    → Stops ⊥ s (within_objects settings.limits.objects (inputs_of settings.suffix settings.sizes names)) → Stops rose s (case_asked files settings)
+    → Stops ⊥ s (within_objects settings.limits.objects (inputs_of settings.suffix (apart_of settings) names)) → Stops rose s (case_asked files settings)
 unfolding case_asked
 entries_fail rose files settings names s known stops =
-    stops_behind ⊥ rose s (within_objects settings.limits.objects (inputs_of settings.suffix settings.sizes (names_of files)))
-    (λ entries. readings_of settings files entries >>= λ es. sizes_asked files settings.sizes
-    >>= λ sizes. within_limits settings.limits.object_slots (case_of_run settings es sizes))
-    (λ none. absurd none) (subst (λ (ns : List Name). Stops ⊥ s (within_objects settings.limits.objects (inputs_of settings.suffix settings.sizes ns))) known stops)
+    stops_behind ⊥ rose s (within_objects settings.limits.objects (inputs_of settings.suffix (apart_of settings) (names_of files)))
+    (λ entries. readings_of settings files entries >>= λ es. attributes_asked es [] files settings
+    >>= λ said. within_limits settings.limits.object_slots (case_of_run settings es said))
+    (λ none. absurd none) (subst (λ (ns : List Name). Stops ⊥ s (within_objects settings.limits.objects (inputs_of settings.suffix (apart_of settings) ns))) known stops)
 
 -- a reading that was given up, as the run's cause
 pub input_stops : {X A B : Type 0} (P Q : Type 0) (view : X → A) (why : InputError) (read : Result A Status) (f : A → Result B Status) → (P → Q)
@@ -107,41 +108,41 @@ input_stops {X} {A} {B} P Q view (input.Limit fault) read f rose here = ap (λ (
 
 -- a file is not read
 pub tracks_fail : {X : Type 0} (rose : Type 0) (view : X → List PlainTrack) (files : List FileBytes) (settings : PlainSettings) (entries : List Entry) (why : InputError)
-    → within_objects settings.limits.objects (inputs_of settings.suffix settings.sizes (names_of files)) ≡ Ok entries
+    → within_objects settings.limits.objects (inputs_of settings.suffix (apart_of settings) (names_of files)) ≡ Ok entries
     → Reads rose view (Err why) (readings_of settings files entries)
     → Stops rose (input_status why) (case_asked files settings)
 tracks_fail rose view files settings entries why taken read =
-    let rest : List PlainTrack → Result PlainProblem Status = λ es. sizes_asked files settings.sizes >>= λ sizes. within_limits settings.limits.object_slots (case_of_run settings es sizes) in
+    let rest : List PlainTrack → Result PlainProblem Status = λ es. attributes_asked es [] files settings >>= λ said. within_limits settings.limits.object_slots (case_of_run settings es said) in
     rw (asked_of_entries files settings entries taken)
     (input_stops rose rose view why (readings_of settings files entries) rest (λ risen. risen) read)
 
 -- the rest, once the tracks are read
 pub asked_of_tracks : (files : List FileBytes) (settings : PlainSettings) (entries : List Entry) (es : List PlainTrack)
-    → within_objects settings.limits.objects (inputs_of settings.suffix settings.sizes (names_of files)) ≡ Ok entries
+    → within_objects settings.limits.objects (inputs_of settings.suffix (apart_of settings) (names_of files)) ≡ Ok entries
     → readings_of settings files entries ≡ Ok es
-    → case_asked files settings ≡ (sizes_asked files settings.sizes >>= λ sizes. within_limits settings.limits.object_slots (case_of_run settings es sizes))
+    → case_asked files settings ≡ (attributes_asked es [] files settings >>= λ said. within_limits settings.limits.object_slots (case_of_run settings es said))
 asked_of_tracks files settings entries es taken read = asked_of_entries files settings entries taken ∙ rw read refl
 
--- the file of sizes is not read
-pub sizes_fail : {X : Type 0} (later rose : Type 0) (view : X → List Size) (files : List FileBytes) (settings : PlainSettings) (es : List PlainTrack) (why : InputError) → (later → rose)
-    → case_asked files settings ≡ (sizes_asked files settings.sizes >>= λ sizes. within_limits settings.limits.object_slots (case_of_run settings es sizes))
-    → Reads later view (Err why) (sizes_asked files settings.sizes)
+-- the files beside ephemerides are not read
+pub attributes_fail : {X : Type 0} (later rose : Type 0) (view : X → PlainAttributes) (files : List FileBytes) (settings : PlainSettings) (es : List PlainTrack) (why : InputError) → (later → rose)
+    → case_asked files settings ≡ (attributes_asked es [] files settings >>= λ said. within_limits settings.limits.object_slots (case_of_run settings es said))
+    → Reads later view (Err why) (attributes_asked es [] files settings)
     → Stops rose (input_status why) (case_asked files settings)
-sizes_fail later rose view files settings es why wider is read =
-    rw is (input_stops later rose view why (sizes_asked files settings.sizes) (λ sizes. within_limits settings.limits.object_slots (case_of_run settings es sizes)) wider read)
+attributes_fail later rose view files settings es why wider is read =
+    rw is (input_stops later rose view why (attributes_asked es [] files settings) (λ said. within_limits settings.limits.object_slots (case_of_run settings es said)) wider read)
 
 -- the rest, once all is read
-pub asked_of_sizes : (files : List FileBytes) (settings : PlainSettings) (es : List PlainTrack) (sizes : List Size)
-    → case_asked files settings ≡ (sizes_asked files settings.sizes >>= λ given. within_limits settings.limits.object_slots (case_of_run settings es given))
-    → sizes_asked files settings.sizes ≡ Ok sizes
-    → case_asked files settings ≡ within_limits settings.limits.object_slots (case_of_run settings es sizes)
-asked_of_sizes files settings es sizes is read = is ∙ rw read refl
+pub asked_of_attributes : (files : List FileBytes) (settings : PlainSettings) (es : List PlainTrack) (said : PlainAttributes)
+    → case_asked files settings ≡ (attributes_asked es [] files settings >>= λ given. within_limits settings.limits.object_slots (case_of_run settings es given))
+    → attributes_asked es [] files settings ≡ Ok said
+    → case_asked files settings ≡ within_limits settings.limits.object_slots (case_of_run settings es said)
+asked_of_attributes files settings es said is read = is ∙ rw read refl
 
--- the case that is asked has this window and these radii
-pub case_made : (settings : PlainSettings) (es : List PlainTrack) (sizes : List Size) (first last : ℕ) (radii : List ℕ)
-    → first ≡ window_first settings es → last ≡ window_last settings es → radii ≡ object_sizes sizes es
-    → within_limits settings.limits.object_slots (case_of_run settings es sizes) ≡ within_limits settings.limits.object_slots (case_with es first last (settings.threshold * 1_000_000_000) radii)
-case_made settings es sizes first last radii starts ends sized = rw (starts, ends, sized) refl
+-- the case that is asked has this window, these radii and these primaries
+pub case_made : (settings : PlainSettings) (es : List PlainTrack) (said : PlainAttributes) (first last : ℕ) (radii : List ℕ) (marks : Option (List Bool))
+    → first ≡ window_first settings es → last ≡ window_last settings es → radii ≡ object_sizes said.sizes es → marks ≡ object_primaries said.primaries es
+    → within_limits settings.limits.object_slots (case_of_run settings es said) ≡ within_limits settings.limits.object_slots (case_with es first last (settings.threshold * 1_000_000_000) radii marks)
+case_made settings es said first last radii marks starts ends sized marked = rw (starts, ends, sized, marked) refl
 
 -- what a folder's error means for what is due
 pub folder_stops : {A : Type 0} (P : Type 0) (e : FolderError) (due : Result A Status) → (e ≡ folder.Failed → P) → Stops P (folder_status e) due

@@ -8,7 +8,6 @@ use Rattle.cj_case.specs.Slots.{slot_count}
 use Rattle.cj_io.specs.declared.file.FileBytes.{FileBytes}
 use Rattle.cj_io.specs.declared.name.Name.{Name}
 use Rattle.cj_io.specs.Files.{names_of}
-use Rattle.cj_sizes.specs.Sizes.{Size}
 use Rattle.cj_track.specs.PlainTracks.{PlainTrack}
 use Rattle.cj_words.specs.Commands.{PlainRescreening}
 use Rattle.cj_words.specs.Settings.{PlainSettings}
@@ -20,7 +19,8 @@ use Rattle.cj_inputs.specs.declared.input_files.Entry.{Entry}
 use Rattle.cj_inputs.specs.declared.reading.InputError.{InputError}
 use Rattle.cj_inputs.specs.Cases.{case_of_run, object_slots, within_limits, within_objects, within_slots, within_window}
 use Rattle.cj_inputs.specs.Errors.{input_status}
-use Rattle.cj_inputs.specs.ObjectSizes.{sizes_asked}
+use Rattle.cj_inputs.specs.InputFiles.{apart_of}
+use Rattle.cj_inputs.specs.ObjectAttributes.{PlainAttributes, attributes_asked}
 use Rattle.cj_inputs.specs.Readings.{Reads}
 use Rattle.cj_inputs.specs.Updates.{PlainUpdated, PlainUpdating, base_of, both_within, cases_asked, cases_of_run, larger, read_as, tracks_updated, updated_asked, updates_of}
 use Rattle.cj_inputs.specs.Windows.{greatest, least, start_of, stop_of, window_first, window_last}
@@ -31,22 +31,22 @@ use Rattle.cj_inputs.proofs.WithinLemmas.{let_through, step_there, within_there}
 
 -- the base files are not listed
 pub base_unlisted : (rose : Type 0) (files : List FileBytes) (settings : PlainSettings) (update : List ℕ) (names : List Name) (s : Status) → names ≡ names_of files
-    → Stops ⊥ s (within_objects settings.limits.objects (base_of settings.suffix update settings.sizes names)) → Stops rose s (tracks_updated files settings update)
+    → Stops ⊥ s (within_objects settings.limits.objects (base_of settings.suffix update (apart_of settings) names)) → Stops rose s (tracks_updated files settings update)
 unfolding tracks_updated
 base_unlisted rose files settings update names s known stops =
-    stops_behind ⊥ rose s (within_objects settings.limits.objects (base_of settings.suffix update settings.sizes (names_of files)))
-    (λ entries. read_as files settings update entries (updates_of settings.suffix update settings.sizes (names_of files))) (λ none. absurd none)
-    (subst (λ (ns : List Name). Stops ⊥ s (within_objects settings.limits.objects (base_of settings.suffix update settings.sizes ns))) known stops)
+    stops_behind ⊥ rose s (within_objects settings.limits.objects (base_of settings.suffix update (apart_of settings) (names_of files)))
+    (λ entries. read_as files settings update entries (updates_of settings.suffix update (apart_of settings) (names_of files))) (λ none. absurd none)
+    (subst (λ (ns : List Name). Stops ⊥ s (within_objects settings.limits.objects (base_of settings.suffix update (apart_of settings) ns))) known stops)
 
 -- they are, and so are the updates
 pub both_listed : (files : List FileBytes) (settings : PlainSettings) (update : List ℕ) (names : List Name) (entries updates : List Entry) → names ≡ names_of files
-    → within_objects settings.limits.objects (base_of settings.suffix update settings.sizes names) ≡ Ok entries → updates ≡ updates_of settings.suffix update settings.sizes names
+    → within_objects settings.limits.objects (base_of settings.suffix update (apart_of settings) names) ≡ Ok entries → updates ≡ updates_of settings.suffix update (apart_of settings) names
     → tracks_updated files settings update ≡ read_as files settings update entries updates
 unfolding tracks_updated
 both_listed files settings update names entries updates known listed is =
-    ap (λ (r : Result (List Entry) Status). r >>= λ some. read_as files settings update some (updates_of settings.suffix update settings.sizes (names_of files)))
-    (subst (λ (ns : List Name). within_objects settings.limits.objects (base_of settings.suffix update settings.sizes ns) ≡ Ok entries) known listed)
-    ∙ ap (λ (es : List Entry). read_as files settings update entries es) (sym (is ∙ ap (λ (ns : List Name). updates_of settings.suffix update settings.sizes ns) known))
+    ap (λ (r : Result (List Entry) Status). r >>= λ some. read_as files settings update some (updates_of settings.suffix update (apart_of settings) (names_of files)))
+    (subst (λ (ns : List Name). within_objects settings.limits.objects (base_of settings.suffix update (apart_of settings) ns) ≡ Ok entries) known listed)
+    ∙ ap (λ (es : List Entry). read_as files settings update entries es) (sym (is ∙ ap (λ (ns : List Name). updates_of settings.suffix update (apart_of settings) ns) known))
 
 -- ---- the updated files alone
 
@@ -56,25 +56,25 @@ pub updated_unread : (rose : Type 0) (files : List FileBytes) (settings : PlainS
 unfolding updated_asked
 updated_unread rose files settings update s stops =
     stops_behind rose rose s (tracks_updated files settings update)
-    (λ tracks. sizes_asked files settings.sizes >>= λ sizes. within_limits settings.limits.object_slots (case_of_run settings tracks.new sizes)) (λ risen. risen) stops
+    (λ tracks. attributes_asked tracks.base tracks.new files settings >>= λ said. within_limits settings.limits.object_slots (case_of_run settings tracks.new said)) (λ risen. risen) stops
 
 updated_of_tracks : (files : List FileBytes) (settings : PlainSettings) (update : List ℕ) (tracks : PlainUpdated) → tracks_updated files settings update ≡ Ok tracks
-    → updated_asked files settings update ≡ (sizes_asked files settings.sizes >>= λ sizes. within_limits settings.limits.object_slots (case_of_run settings tracks.new sizes))
+    → updated_asked files settings update ≡ (attributes_asked tracks.base tracks.new files settings >>= λ said. within_limits settings.limits.object_slots (case_of_run settings tracks.new said))
 unfolding updated_asked
 updated_of_tracks files settings update tracks is = rw is refl
 
--- the file of sizes is not
-pub updated_unsized : {X : Type 0} (later rose : Type 0) (view : X → List Size) (files : List FileBytes) (settings : PlainSettings) (update : List ℕ) (tracks : PlainUpdated) (why : InputError)
-    → (later → rose) → tracks_updated files settings update ≡ Ok tracks → Reads later view (Err why) (sizes_asked files settings.sizes)
+-- the files beside ephemerides are not
+pub updated_unsaid : {X : Type 0} (later rose : Type 0) (view : X → PlainAttributes) (files : List FileBytes) (settings : PlainSettings) (update : List ℕ) (tracks : PlainUpdated) (why : InputError)
+    → (later → rose) → tracks_updated files settings update ≡ Ok tracks → Reads later view (Err why) (attributes_asked tracks.base tracks.new files settings)
     → Stops rose (input_status why) (updated_asked files settings update)
-updated_unsized later rose view files settings update tracks why wider is read =
+updated_unsaid later rose view files settings update tracks why wider is read =
     rw (updated_of_tracks files settings update tracks is)
-    (input_stops later rose view why (sizes_asked files settings.sizes) (λ sizes. within_limits settings.limits.object_slots (case_of_run settings tracks.new sizes)) wider read)
+    (input_stops later rose view why (attributes_asked tracks.base tracks.new files settings) (λ said. within_limits settings.limits.object_slots (case_of_run settings tracks.new said)) wider read)
 
 -- all is read
-pub updated_of_sizes : (files : List FileBytes) (settings : PlainSettings) (update : List ℕ) (tracks : PlainUpdated) (sizes : List Size) → tracks_updated files settings update ≡ Ok tracks
-    → sizes_asked files settings.sizes ≡ Ok sizes → updated_asked files settings update ≡ within_limits settings.limits.object_slots (case_of_run settings tracks.new sizes)
-updated_of_sizes files settings update tracks sizes is read = updated_of_tracks files settings update tracks is ∙ rw read refl
+pub updated_of_attributes : (files : List FileBytes) (settings : PlainSettings) (update : List ℕ) (tracks : PlainUpdated) (said : PlainAttributes) → tracks_updated files settings update ≡ Ok tracks
+    → attributes_asked tracks.base tracks.new files settings ≡ Ok said → updated_asked files settings update ≡ within_limits settings.limits.object_slots (case_of_run settings tracks.new said)
+updated_of_attributes files settings update tracks said is read = updated_of_tracks files settings update tracks is ∙ rw read refl
 
 -- ---- both cases
 
@@ -84,26 +84,26 @@ unfolding cases_asked
 cases_unread rose files asked s stops =
     let settings = asked.screening.settings in
     stops_behind rose rose s (tracks_updated files settings asked.update)
-    (λ tracks. sizes_asked files settings.sizes >>= λ sizes. both_within settings.limits.object_slots (cases_of_run settings tracks sizes)) (λ risen. risen) stops
+    (λ tracks. attributes_asked tracks.base tracks.new files settings >>= λ said. both_within settings.limits.object_slots (cases_of_run settings tracks said)) (λ risen. risen) stops
 
 cases_of_tracks : (files : List FileBytes) (asked : PlainRescreening) (tracks : PlainUpdated) → tracks_updated files asked.screening.settings asked.update ≡ Ok tracks
-    → cases_asked files asked ≡ (sizes_asked files asked.screening.settings.sizes
-    >>= λ sizes. both_within asked.screening.settings.limits.object_slots (cases_of_run asked.screening.settings tracks sizes))
+    → cases_asked files asked ≡ (attributes_asked tracks.base tracks.new files asked.screening.settings
+    >>= λ said. both_within asked.screening.settings.limits.object_slots (cases_of_run asked.screening.settings tracks said))
 unfolding cases_asked
 cases_of_tracks files asked tracks is = rw is refl
 
-pub cases_unsized : {X : Type 0} (later rose : Type 0) (view : X → List Size) (files : List FileBytes) (asked : PlainRescreening) (tracks : PlainUpdated) (why : InputError) → (later → rose)
-    → tracks_updated files asked.screening.settings asked.update ≡ Ok tracks → Reads later view (Err why) (sizes_asked files asked.screening.settings.sizes)
+pub cases_unsaid : {X : Type 0} (later rose : Type 0) (view : X → PlainAttributes) (files : List FileBytes) (asked : PlainRescreening) (tracks : PlainUpdated) (why : InputError) → (later → rose)
+    → tracks_updated files asked.screening.settings asked.update ≡ Ok tracks → Reads later view (Err why) (attributes_asked tracks.base tracks.new files asked.screening.settings)
     → Stops rose (input_status why) (cases_asked files asked)
-cases_unsized later rose view files asked tracks why wider is read =
+cases_unsaid later rose view files asked tracks why wider is read =
     rw (cases_of_tracks files asked tracks is)
-    (input_stops later rose view why (sizes_asked files asked.screening.settings.sizes)
-    (λ sizes. both_within asked.screening.settings.limits.object_slots (cases_of_run asked.screening.settings tracks sizes)) wider read)
+    (input_stops later rose view why (attributes_asked tracks.base tracks.new files asked.screening.settings)
+    (λ said. both_within asked.screening.settings.limits.object_slots (cases_of_run asked.screening.settings tracks said)) wider read)
 
-pub cases_of_sizes : (files : List FileBytes) (asked : PlainRescreening) (tracks : PlainUpdated) (sizes : List Size) → tracks_updated files asked.screening.settings asked.update ≡ Ok tracks
-    → sizes_asked files asked.screening.settings.sizes ≡ Ok sizes
-    → cases_asked files asked ≡ both_within asked.screening.settings.limits.object_slots (cases_of_run asked.screening.settings tracks sizes)
-cases_of_sizes files asked tracks sizes is read = cases_of_tracks files asked tracks is ∙ rw read refl
+pub cases_of_attributes : (files : List FileBytes) (asked : PlainRescreening) (tracks : PlainUpdated) (said : PlainAttributes) → tracks_updated files asked.screening.settings asked.update ≡ Ok tracks
+    → attributes_asked tracks.base tracks.new files asked.screening.settings ≡ Ok said
+    → cases_asked files asked ≡ both_within asked.screening.settings.limits.object_slots (cases_of_run asked.screening.settings tracks said)
+cases_of_attributes files asked tracks said is read = cases_of_tracks files asked tracks is ∙ rw read refl
 
 -- ---- their limits
 
@@ -124,9 +124,9 @@ pub record AreOver (a b : PlainProblem) : Type 0 where
   pub last : a.last ≡ b.last
   pub threshold : a.threshold ≡ b.threshold
 
-pub one_window : (settings : PlainSettings) (some more : List PlainTrack) (sizes : List Size) → is_some settings.from ≡ true → is_some settings.to ≡ true
-    → AreOver (case_of_run settings some sizes) (case_of_run settings more sizes)
-one_window settings some more sizes begins ends = record { first = given_first settings some more begins; last = given_last settings some more ends; threshold = refl }
+pub one_window : (settings : PlainSettings) (some more : List PlainTrack) (said : PlainAttributes) → is_some settings.from ≡ true → is_some settings.to ≡ true
+    → AreOver (case_of_run settings some said) (case_of_run settings more said)
+one_window settings some more said begins ends = record { first = given_first settings some more begins; last = given_last settings some more ends; threshold = refl }
 
 -- a case of the window of another that is within limits, and of no more objects, is within them too
 pub smaller_within : (most : ℕ) (a b kept : PlainProblem) → AreOver a b → length a.tracks ≤ length b.tracks → within_limits most b ≡ Ok kept → within_limits most a ≡ Ok a

@@ -6,7 +6,6 @@ use Rattle.std.proofs.lemmas.List.{length-append}
 use Rattle.cj_base.specs.Limits.{PlainLimits, USUAL}
 use Rattle.cj_io.specs.declared.file.FileBytes.{FileBytes}
 use Rattle.cj_io.specs.Files.{names_of}
-use Rattle.cj_sizes.specs.Sizes.{Size}
 use Rattle.cj_track.specs.PlainTracks.{PlainTrack}
 use Rattle.cj_words.specs.Settings.{PlainSettings}
 use Rattle.cj_case.specs.PlainProblems.{PlainProblem}
@@ -17,8 +16,8 @@ use Rattle.cj_status.specs.declared.status.LimitFault.TheVariants.{Objects, Wind
 use Rattle.cj_status.specs.Steps.{◌>>=◌}
 use Rattle.cj_inputs.specs.declared.input_files.Entry.{Entry}
 use Rattle.cj_inputs.specs.Cases.{case_asked, case_of_run, object_slots, within_limits, within_objects, within_slots, within_window}
-use Rattle.cj_inputs.specs.InputFiles.{inputs_of}
-use Rattle.cj_inputs.specs.ObjectSizes.{sizes_asked}
+use Rattle.cj_inputs.specs.InputFiles.{apart_of, inputs_of}
+use Rattle.cj_inputs.specs.ObjectAttributes.{PlainAttributes, attributes_asked}
 use Rattle.cj_inputs.specs.Readings.{reading_after, readings_after, readings_of}
 
 -- where two steps come to a value, the first comes to one
@@ -58,13 +57,13 @@ pub asked_within : (files : List FileBytes) (settings : PlainSettings) (case : P
 unfolding case_asked
 asked_within files settings case is =
     let limits = settings.limits in
-    let entries = inputs_of settings.suffix settings.sizes (names_of files) in
-    let made : List PlainTrack → List Size → PlainProblem = case_of_run settings in
-    let sized : List PlainTrack → Result PlainProblem Status = λ es. sizes_asked files settings.sizes >>= λ sizes. within_limits limits.object_slots (made es sizes) in
-    let listed = step_there (within_objects limits.objects entries) (λ some. readings_of settings files some >>= sized) case is in
+    let entries = inputs_of settings.suffix (apart_of settings) (names_of files) in
+    let made : List PlainTrack → PlainAttributes → PlainProblem = case_of_run settings in
+    let beside : List PlainTrack → Result PlainProblem Status = λ es. attributes_asked es [] files settings >>= λ said. within_limits limits.object_slots (made es said) in
+    let listed = step_there (within_objects limits.objects entries) (λ some. readings_of settings files some >>= beside) case is in
     let few = let_through (length entries) limits.objects entries listed.0 (status.Limit (Objects (length entries))) listed.1 in
-    let read = step_there (readings_of settings files listed.0) sized case listed.2 in
-    let told = step_there (sizes_asked files settings.sizes) (λ sizes. within_limits limits.object_slots (made read.0 sizes)) case read.2 in
+    let read = step_there (readings_of settings files listed.0) beside case listed.2 in
+    let told = step_there (attributes_asked read.0 [] files settings) (λ said. within_limits limits.object_slots (made read.0 said)) case read.2 in
     let there = within_there limits.object_slots (made read.0 told.0) case told.2 in
     let whole : IsWithin limits (made read.0 told.0) = record {
       objects = omega (arith, few.0, ap (λ (some : List Entry). length some) few.1, readings_many settings files [] listed.0 read.0 read.1);

@@ -1,5 +1,5 @@
 -- What the files of a folder are read as, each for itself: whatever their frames, and without a window.
-use Rattle.std.specs.Prelude.{ℕ, Bool, List, [], ◌∷◌, ◌++◌, map, None, Result, Ok}
+use Rattle.std.specs.Prelude.{ℕ, Bool, List, [], ◌∷◌, ◌++◌, map, Result, Ok}
 use Rattle.cj_base.specs.Limits.{PlainLimits}
 use Rattle.cj_io.specs.declared.file.FileBytes.{FileBytes}
 use Rattle.cj_io.specs.Files.{bytes_of, names_of}
@@ -11,7 +11,7 @@ use Rattle.cj_status.specs.Steps.{◌>>=◌}
 use Rattle.cj_inputs.specs.declared.input_files.Entry.{Entry}
 use Rattle.cj_inputs.specs.declared.lone_tracks.LoneTracks.{LoneTracks}
 use Rattle.cj_inputs.specs.Cases.{within_objects}
-use Rattle.cj_inputs.specs.InputFiles.{inputs_of}
+use Rattle.cj_inputs.specs.InputFiles.{inputs_of, none_apart}
 use Rattle.cj_inputs.specs.Readings.{reading_of, within_nodes}
 
 abbrev pub plain_tracks : LoneTracks → List PlainTrack
@@ -30,5 +30,5 @@ readings_alone as_hermite3 most files before (entry ∷ entries) =
 -- the ephemerides that are asked of the files within these limits, or the first cause for which there are none
 unfoldable pub tracks_asked : PlainLimits → List FileBytes → PlainThinning → Result (List PlainTrack) Status
 tracks_asked limits files thinning = do
-  entries ← within_objects limits.objects (inputs_of thinning.suffix None (names_of files))
+  entries ← within_objects limits.objects (inputs_of thinning.suffix none_apart (names_of files))
   readings_alone thinning.as_hermite3 limits.nodes files [] entries

@@ -8,7 +8,7 @@ use Rattle.cj_case.specs.PlainProblems.{PlainProblem}
 use Rattle.cj_trim.specs.Same.{IsSameWithin}
 use Rattle.cj_words.specs.Settings.{PlainSettings}
 use Rattle.cj_inputs.specs.declared.input_files.Entry.{Entry}
-use Rattle.cj_inputs.specs.InputFiles.{inputs_of}
+use Rattle.cj_inputs.specs.InputFiles.{apart_of, inputs_of}
 use Rattle.cj_inputs.specs.Readings.{reading_of}
 
 -- it is what a file says, but for states that no tick from first to last needs: at each of these it is between the same two
@@ -20,4 +20,4 @@ pub record IsFromFile (settings : PlainSettings) (files : List FileBytes) (first
 -- so is each ephemeris of a case, of the files that are taken, in the case's window
 abbrev pub AreFromFiles : PlainSettings → List FileBytes → PlainProblem → Type 0
 AreFromFiles settings files case =
-    AllZip (IsFromFile settings files case.first case.last) (inputs_of settings.suffix settings.sizes (names_of files)) case.tracks
+    AllZip (IsFromFile settings files case.first case.last) (inputs_of settings.suffix (apart_of settings) (names_of files)) case.tracks

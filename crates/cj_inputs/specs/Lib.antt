@@ -6,6 +6,8 @@ pub mod Coverings
 pub mod Errors
 pub mod FromFiles
 pub mod InputFiles
+pub mod ObjectAttributes
+pub mod ObjectPrimaries
 pub mod ObjectSizes
 pub mod Orders
 pub mod Places

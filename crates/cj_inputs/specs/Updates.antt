@@ -13,15 +13,14 @@ use Rattle.cj_words.specs.Commands.{PlainRescreening}
 use Rattle.cj_words.specs.Settings.{PlainSettings}
 use Rattle.cj_case.specs.PlainProblems.{PlainProblem}
 use Rattle.cj_case.specs.Problems.{plain_problem}
-use Rattle.cj_sizes.specs.Sizes.{Size}
 use Rattle.cj_status.specs.declared.status.Status.{Status}
 use Rattle.cj_status.specs.Steps.{◌>>=◌}
 use Rattle.cj_inputs.specs.declared.input_files.Entry.{Entry}
 use Rattle.cj_inputs.specs.declared.updated.Updated.{Updated}
 use Rattle.cj_inputs.specs.declared.updating.Updating.{Updating}
 use Rattle.cj_inputs.specs.Cases.{case_asked, case_of_run, within_limits, within_objects}
-use Rattle.cj_inputs.specs.InputFiles.{has_suffix, inputs_of, is_taken}
-use Rattle.cj_inputs.specs.ObjectSizes.{sizes_asked}
+use Rattle.cj_inputs.specs.InputFiles.{PlainApart, apart_of, has_suffix, inputs_of, is_taken}
+use Rattle.cj_inputs.specs.ObjectAttributes.{PlainAttributes, attributes_asked}
 use Rattle.cj_inputs.specs.Orders.{inserted}
 use Rattle.cj_inputs.specs.Readings.{checked_after, readings_of, refused_of, within_bytes}
 use Rattle.cj_inputs.specs.Trims.{left_said, trims_of}
@@ -32,14 +31,14 @@ use Rattle.cj_inputs.specs.Trims.{left_said, trims_of}
 abbrev pub updated_name : List ℕ → List ℕ → List ℕ
 updated_name update name = take (length name - length update) name
 
--- a file of this name is an update: its name ends with the update suffix, and what stands before that with the suffix. The file of sizes is
--- none
-abbrev pub is_update : List ℕ → List ℕ → Option (List ℕ) → List ℕ → Bool
-is_update suffix update sizes name = is_taken update sizes name && has_suffix suffix (updated_name update name)
+-- a file of this name is an update: its name ends with the update suffix, and what stands before that with the suffix. The files of sizes
+-- and of primaries are none
+abbrev pub is_update : List ℕ → List ℕ → PlainApart → List ℕ → Bool
+is_update suffix update apart name = is_taken update apart name && has_suffix suffix (updated_name update name)
 
 -- the base files of a folder with these names: those that are taken and are no updates
-unfoldable pub base_of : List ℕ → List ℕ → Option (List ℕ) → List (List ℕ) → List Entry
-base_of suffix update sizes names = filter (λ entry. not (is_update suffix update sizes entry.name)) (inputs_of suffix sizes names)
+unfoldable pub base_of : List ℕ → List ℕ → PlainApart → List (List ℕ) → List Entry
+base_of suffix update apart names = filter (λ entry. not (is_update suffix update apart entry.name)) (inputs_of suffix apart names)
 
 -- no file of the same name follows
 abbrev pub ends_name : Entry → List Entry → Bool
@@ -57,8 +56,8 @@ last_updates suffix update (entry ∷ entries) =
     if is_last_update suffix update entry entries then entry ∷ last_updates suffix update entries else last_updates suffix update entries
 
 -- the updates that count: of each name the last one in the folder's order, in byte order of their own names
-unfoldable pub updates_of : List ℕ → List ℕ → Option (List ℕ) → List (List ℕ) → List Entry
-updates_of suffix update sizes names = last_updates suffix update (inputs_of update sizes names)
+unfoldable pub updates_of : List ℕ → List ℕ → PlainApart → List (List ℕ) → List Entry
+updates_of suffix update apart names = last_updates suffix update (inputs_of update apart names)
 
 -- ---- the files that then stand
 
@@ -152,8 +151,8 @@ read_as files settings update entries updates = do
 -- the same of the files of a folder
 unfoldable pub tracks_updated : List FileBytes → PlainSettings → List ℕ → Result PlainUpdated Status
 tracks_updated files settings update = do
-  entries ← within_objects settings.limits.objects (base_of settings.suffix update settings.sizes (names_of files))
-  read_as files settings update entries (updates_of settings.suffix update settings.sizes (names_of files))
+  entries ← within_objects settings.limits.objects (base_of settings.suffix update (apart_of settings) (names_of files))
+  read_as files settings update entries (updates_of settings.suffix update (apart_of settings) (names_of files))
 
 -- ---- what is asked
 
@@ -161,8 +160,8 @@ tracks_updated files settings update = do
 unfoldable pub updated_asked : List FileBytes → PlainSettings → List ℕ → Result PlainProblem Status
 updated_asked files settings update = do
   tracks ← tracks_updated files settings update
-  sizes ← sizes_asked files settings.sizes
-  within_limits settings.limits.object_slots (case_of_run settings tracks.new sizes)
+  said ← attributes_asked tracks.base tracks.new files settings
+  within_limits settings.limits.object_slots (case_of_run settings tracks.new said)
 
 -- the case that is asked of the files, where those are updates whose names end with this, if it stands
 abbrev pub case_with_updates : List FileBytes → PlainSettings → Option (List ℕ) → Result PlainProblem Status
@@ -181,8 +180,8 @@ plain_updating updating = record { base = plain_problem updating.base; new = pla
 abbrev pub larger : PlainUpdating → PlainProblem
 larger cases = if nat_le (length cases.base.tracks) (length cases.new.tracks) then cases.new else cases.base
 
-abbrev pub cases_of_run : PlainSettings → PlainUpdated → List Size → PlainUpdating
-cases_of_run settings tracks sizes = record { base = case_of_run settings tracks.base sizes; new = case_of_run settings tracks.new sizes }
+abbrev pub cases_of_run : PlainSettings → PlainUpdated → PlainAttributes → PlainUpdating
+cases_of_run settings tracks said = record { base = case_of_run settings tracks.base said; new = case_of_run settings tracks.new said }
 
 -- both cases, where the one with more objects is within its limits
 abbrev pub both_within : ℕ → PlainUpdating → Result PlainUpdating Status
@@ -192,5 +191,5 @@ both_within most cases = within_limits most (larger cases) >>= λ larger. Ok cas
 unfoldable pub cases_asked : List FileBytes → PlainRescreening → Result PlainUpdating Status
 cases_asked files asked = do
   tracks ← tracks_updated files asked.screening.settings asked.update
-  sizes ← sizes_asked files asked.screening.settings.sizes
-  both_within asked.screening.settings.limits.object_slots (cases_of_run asked.screening.settings tracks sizes)
+  said ← attributes_asked tracks.base tracks.new files asked.screening.settings
+  both_within asked.screening.settings.limits.object_slots (cases_of_run asked.screening.settings tracks said)

@@ -2,6 +2,7 @@
 ghost use Rattle.std.specs.Prelude.{◌≡◌, ◌<◌, ◌≤◌, ◌^◌, length};
 ghost use Rattle.std.specs.List.{All};
 
+use crate::apart::Apart;
 use crate::input_files::{Entry, list_inputs};
 use crate::object_sizes::read_size_lines;
 use crate::parsing::parse_bytes;
@@ -95,7 +96,7 @@ fn tell_of_inputs<F: Folder, G: Gate>(
     ensures files { F.files folder.new ≡ F.files folder.old }
     ensures later { F.faults folder.old ≤ F.faults folder.new }
 {
-    let entries = list_inputs(alloc, names, settings.suffix, settings.sizes)?;
+    let entries = list_inputs(alloc, names, settings.suffix, Apart::of(settings))?;
     tell_of_files(alloc, gate, folder, &entries, settings, b"", None, known)?;
     Ok(())
 }
@@ -117,9 +118,9 @@ fn tell_of_both<F: Folder, G: Gate>(
     ensures files { F.files folder.new ≡ F.files folder.old }
     ensures later { F.faults folder.old ≤ F.faults folder.new }
 {
-    let base = list_base(alloc, names, settings.suffix, update, settings.sizes)?;
+    let base = list_base(alloc, names, settings.suffix, update, Apart::of(settings))?;
     let frame = tell_of_files(alloc, gate, folder, &base, settings, b"", None, known)?;
-    let updates = list_updates(alloc, names, settings.suffix, update, settings.sizes)?;
+    let updates = list_updates(alloc, names, settings.suffix, update, Apart::of(settings))?;
     tell_of_files(
         alloc, gate, folder, &updates, settings, update, frame, known,
     )?;

@@ -10,6 +10,7 @@ ghost use Rattle.cj_inputs.specs.Alone as spec;
 ghost use Rattle.cj_inputs.specs.Readings.{Reads, reading_of};
 ghost use Rattle.cj_status.specs.Steps.{Gives, ComesBetween};
 
+use crate::apart::Apart;
 use crate::batch::FileRead;
 use crate::input_files::Entry;
 use crate::lone_tracks::LoneTracks;
@@ -44,8 +45,8 @@ pub fn read_alone<F: Folder, G: Gate>(
     ensures later { F.faults folder.old ≤ F.faults folder.new }
 {
     let names = folder.names(alloc)?;
-    let entries = list_few_inputs(alloc, &names, thinning.suffix, None, limits)?;
-    warn_of_names(gate, &names, &entries, thinning.suffix, None, None);
+    let entries = list_few_inputs(alloc, &names, thinning.suffix, Apart::none(), limits)?;
+    warn_of_names(gate, &names, &entries, thinning.suffix, Apart::none(), None);
     let lone = read_each(alloc, folder, &entries, thinning.as_hermite3, limits)?;
     Ok(lone)
 }

@@ -3,6 +3,7 @@
 
 mod all_faults;
 mod alone;
+mod apart;
 mod batch;
 mod batching;
 mod certificates;
@@ -12,6 +13,8 @@ mod covering;
 mod errors;
 mod input_files;
 mod lone_tracks;
+mod object_attributes;
+mod object_primaries;
 mod object_sizes;
 mod overlapping;
 mod parsing;

@@ -1,31 +1,32 @@
 //! From the settings and a folder to the problem that is to be screened.
 ghost use Rattle.std.specs.Prelude.{◌≡◌, ◌<◌, ◌≤◌, ◌^◌, List, Some, Err, IfErr, IfOk, All, map, length};
 ghost use Rattle.cj_base.specs.Bounds.{MOST_OBJECTS};
-ghost use Rattle.std.specs.Option.{option_copied};
 ghost use Rattle.cj_io.specs.Faults.{Rose};
 ghost use Rattle.cj_io.specs.Files.{names_of};
 ghost use Rattle.cj_io.specs.declared.file.FileBytes.{FileBytes};
 ghost use Rattle.cj_case.specs.CaseLimits.{AreFewNodes};
 ghost use Rattle.cj_case.specs.Frames.{HaveOneFrame};
+ghost use Rattle.cj_case.specs.Primaries.{marks_of};
 ghost use Rattle.cj_case.specs.Problems.{plain_problem};
-ghost use Rattle.cj_sizes.specs.Sizes.{sizes_of};
 ghost use Rattle.cj_track.specs.Tracks.{plain_track};
 ghost use Rattle.cj_words.specs.Settings.{plain_settings};
 ghost use Rattle.cj_inputs.specs.Cases as spec;
 ghost use Rattle.cj_inputs.specs.FromFiles.{AreFromFiles};
-ghost use Rattle.cj_inputs.specs.InputFiles.{inputs_of};
+ghost use Rattle.cj_inputs.specs.InputFiles.{inputs_of, plain_apart};
+ghost use Rattle.cj_inputs.specs.ObjectAttributes.{plain_attributes};
 ghost use Rattle.cj_status.specs.Steps.{Gives, ComesBetween, IsLimit};
 
 use crate::all_faults::tell_all_faults;
+use crate::apart::Apart;
 use crate::input_files::{Entry, list_inputs};
-use crate::object_sizes::{read_size_lines, sizes_of_tracks};
+use crate::object_attributes::{Attributes, read_attributes};
+use crate::object_sizes::sizes_of_tracks;
 use crate::taking::read_tracks;
 use crate::warnings::{warn_of_names, warn_of_tracks};
 use crate::window::window_of;
 use cj_base::{Limits, Window};
-use cj_case::{Problem, Sizes, Tracks, slot_count};
+use cj_case::{Primaries, Problem, Sizes, Tracks, slot_count};
 use cj_io::{Folder, Gate, Name};
-use cj_sizes::SizeLine;
 use cj_status::{LimitFault, Status};
 use cj_track::Track;
 use cj_words::Settings;
@@ -115,13 +116,20 @@ fn read_problem<R: Threads + Sync, F: Folder, G: Gate + Sync>(
         alloc,
         names,
         settings.suffix,
-        settings.sizes,
+        Apart::of(settings),
         settings.limits,
     )?;
-    warn_of_names(gate, names, &entries, settings.suffix, settings.sizes, None);
+    warn_of_names(
+        gate,
+        names,
+        &entries,
+        settings.suffix,
+        Apart::of(settings),
+        None,
+    );
     let tracks = read_tracks(rt, alloc, gate, folder, &entries, settings, workers)?;
-    let lines = read_size_lines(alloc, folder, names, settings.sizes)?;
-    problem_of(alloc, gate, settings, tracks, &lines)
+    let said = read_attributes(alloc, folder, names, &tracks, &[], settings)?;
+    problem_of(alloc, gate, settings, tracks, &said)
 }
 
 /// The files that are taken of those with these names, where there are not too many.
@@ -129,17 +137,17 @@ pub fn list_few_inputs(
     alloc: Global,
     names: &[Name],
     suffix: &[u8],
-    sizes: Option<&[u8]>,
+    apart: Apart<'_>,
     limits: Limits,
 ) -> Result<Vec<Entry>, Status>
     requires { length names.now < 2 ^ 32 }
     ensures between { IfErr result ComesBetween }
     ensures told { Gives ⊥ (λ entries. entries.items) result
-        (spec.within_objects limits.objects (inputs_of suffix.now (option_copied sizes.entry) names.now)) }
+        (spec.within_objects limits.objects (inputs_of suffix.now (plain_apart apart.entry) names.now)) }
     ensures few { IfOk result (λ entries. length entries.items ≤ MOST_OBJECTS) }
     ensures numbers { IfOk result (λ entries. All (λ entry. entry.number < length names.now) entries.items) }
 {
-    let entries = list_inputs(alloc, names, suffix, sizes)?;
+    let entries = list_inputs(alloc, names, suffix, apart)?;
     if entries.len() > limits.objects as usize {
         return Err(too_many_objects(entries.len() as u32));
     }
@@ -152,23 +160,29 @@ pub fn too_many_objects(count: u32) -> Status
     Status::Limit(LimitFault::Objects { count })
 }
 
-/// The problem that is asked of these tracks, where a file says this of the sizes of objects.
+/// The problem that is asked of these tracks, where files say this of their objects.
 pub fn problem_of<G: Gate>(
     alloc: Global,
     gate: &G,
     settings: &Settings,
     tracks: Vec<Track>,
-    lines: &[SizeLine],
+    said: &Attributes,
 ) -> Result<Problem, Status>
     requires few { length tracks.items ≤ MOST_OBJECTS }
     requires frame { HaveOneFrame tracks.items }
     requires nodes { AreFewNodes tracks.items }
     ensures between { IfErr result ComesBetween }
     ensures told { Gives ⊥ plain_problem result
-        (spec.within_limits settings.now.limits.object_slots (spec.case_of_run (plain_settings settings.now) (map plain_track tracks.items) (sizes_of lines.now))) }
+        (spec.within_limits settings.now.limits.object_slots (spec.case_of_run (plain_settings settings.now) (map plain_track tracks.items) (plain_attributes said.now))) }
 {
-    warn_of_tracks(alloc, gate, &tracks, window_of(settings, &tracks), lines);
-    silent_problem_of(alloc, settings, tracks, lines)
+    warn_of_tracks(
+        alloc,
+        gate,
+        &tracks,
+        window_of(settings, &tracks),
+        &said.sizes,
+    );
+    silent_problem_of(alloc, settings, tracks, said)
 }
 
 /// The same, of which nobody is warned.
@@ -176,25 +190,27 @@ pub fn silent_problem_of(
     alloc: Global,
     settings: &Settings,
     tracks: Vec<Track>,
-    lines: &[SizeLine],
+    said: &Attributes,
 ) -> Result<Problem, Status>
     requires few { length tracks.items ≤ MOST_OBJECTS }
     requires frame { HaveOneFrame tracks.items }
     requires nodes { AreFewNodes tracks.items }
     ensures between { IfErr result ComesBetween }
     ensures told { Gives ⊥ plain_problem result
-        (spec.within_limits settings.now.limits.object_slots (spec.case_of_run (plain_settings settings.now) (map plain_track tracks.items) (sizes_of lines.now))) }
+        (spec.within_limits settings.now.limits.object_slots (spec.case_of_run (plain_settings settings.now) (map plain_track tracks.items) (plain_attributes said.now))) }
 {
-    let sizes = sizes_of_tracks(alloc, lines, &tracks)?;
+    let sizes = sizes_of_tracks(alloc, &said.sizes, &tracks)?;
+    let primaries = said.primaries_among(alloc, &tracks)?;
     let window = window_of(settings, &tracks);
     let threshold = settings.threshold * 1_000_000_000;
-    make_problem(tracks, sizes, window, threshold, settings.limits)
+    make_problem(tracks, sizes, primaries, window, threshold, settings.limits)
 }
 
-/// The problem of these tracks, whose objects have these sizes, where its window is within the limits.
+/// The problem of these tracks, whose objects have these sizes and of which these are primaries, where its window is within the limits.
 fn make_problem(
     tracks: Vec<Track>,
     sizes: Sizes,
+    primaries: Primaries,
     window: Window,
     threshold: u64,
     limits: Limits,
@@ -203,11 +219,12 @@ fn make_problem(
     requires frame { HaveOneFrame tracks.items }
     requires nodes { AreFewNodes tracks.items }
     requires sized { length sizes ≡ length tracks.items }
+    requires marked { marks_of primaries (length tracks.items) ≡ length tracks.items }
     requires least { 10 ^ 9 ≤ threshold }
     requires most { threshold ≤ 10 ^ 15 }
     ensures limit { IfErr result IsLimit }
     ensures told { Gives ⊥ plain_problem result
-        (spec.within_limits limits.object_slots (spec.case_with (map plain_track tracks.items) window.first.micros window.last.micros threshold sizes)) }
+        (spec.within_limits limits.object_slots (spec.case_with (map plain_track tracks.items) window.first.micros window.last.micros threshold sizes primaries)) }
 {
     let length = window.last.micros.saturating_sub(window.first.micros);
     if length > MAX_LENGTH {
@@ -222,5 +239,6 @@ fn make_problem(
         window,
         threshold,
         sizes,
+        primaries,
     })
 }

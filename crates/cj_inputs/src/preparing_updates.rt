@@ -6,16 +6,18 @@ ghost use Rattle.cj_io.specs.Faults.{Rose};
 ghost use Rattle.cj_io.specs.Files.{names_of};
 ghost use Rattle.cj_io.specs.declared.file.FileBytes.{FileBytes};
 ghost use Rattle.cj_case.specs.Problems.{plain_problem};
-ghost use Rattle.cj_sizes.specs.Sizes.{sizes_of};
 ghost use Rattle.cj_words.specs.Commands.{plain_rescreening};
 ghost use Rattle.cj_words.specs.Settings.{plain_settings};
 ghost use Rattle.cj_inputs.specs.Cases.{within_objects};
+ghost use Rattle.cj_inputs.specs.InputFiles.{apart_of};
+ghost use Rattle.cj_inputs.specs.ObjectAttributes.{plain_attributes};
 ghost use Rattle.cj_inputs.specs.Updates as spec;
 ghost use Rattle.cj_status.specs.Steps.{Gives, ComesBetween};
 
 use crate::all_faults::tell_all_faults;
+use crate::apart::Apart;
 use crate::input_files::Entry;
-use crate::object_sizes::read_size_lines;
+use crate::object_attributes::{Attributes, read_attributes};
 use crate::preparing::{prepare_listed, problem_of, silent_problem_of, too_many_objects};
 use crate::reading_updates::read_updated;
 use crate::updated::Updated;
@@ -25,7 +27,6 @@ use crate::warnings::{warn_of_names, warn_of_tracks};
 use crate::window::window_of;
 use cj_case::Problem;
 use cj_io::{Folder, Gate, Name};
-use cj_sizes::SizeLine;
 use cj_status::Status;
 use cj_track::Track;
 use cj_words::{Rescreening, Settings};
@@ -93,33 +94,33 @@ fn read_updating<R: Threads + Sync, F: Folder, G: Gate + Sync>(
         update,
         screening.workers,
     )?;
-    let lines = read_size_lines(alloc, folder, names, settings.sizes)?;
-    updating_of(alloc, gate, settings, tracks, &lines)
+    let said = read_attributes(alloc, folder, names, &tracks.base, &tracks.new, settings)?;
+    updating_of(alloc, gate, settings, tracks, &said)
 }
 
-/// The problems that are asked of these tracks for one window, where a file says this of the sizes of objects.
+/// The problems that are asked of these tracks for one window, where files say this of their objects.
 fn updating_of<G: Gate>(
     alloc: Global,
     gate: &G,
     settings: &Settings,
     tracks: Updated,
-    lines: &[SizeLine],
+    said: &Attributes,
 ) -> Result<Updating, Status>
     requires begins { is_some settings.now.from ≡ true }
     requires ends { is_some settings.now.to ≡ true }
     ensures between { IfErr result ComesBetween }
     ensures told { Gives ⊥ spec.plain_updating result
-        (spec.both_within settings.now.limits.object_slots (spec.cases_of_run (plain_settings settings.now) (spec.plain_updated tracks) (sizes_of lines.now))) }
+        (spec.both_within settings.now.limits.object_slots (spec.cases_of_run (plain_settings settings.now) (spec.plain_updated tracks) (plain_attributes said.now))) }
 {
     let Updated { base, new } = tracks;
-    warn_of_tracks(alloc, gate, &new, window_of(settings, &new), lines);
+    warn_of_tracks(alloc, gate, &new, window_of(settings, &new), &said.sizes);
     if are_no_more(&base, &new) {
-        let new = silent_problem_of(alloc, settings, new, lines)?;
-        let base = silent_problem_of(alloc, settings, base, lines)?;
+        let new = silent_problem_of(alloc, settings, new, said)?;
+        let base = silent_problem_of(alloc, settings, base, said)?;
         Ok(Updating { base, new })
     } else {
-        let base = silent_problem_of(alloc, settings, base, lines)?;
-        let new = silent_problem_of(alloc, settings, new, lines)?;
+        let base = silent_problem_of(alloc, settings, base, said)?;
+        let new = silent_problem_of(alloc, settings, new, said)?;
         Ok(Updating { base, new })
     }
 }
@@ -216,10 +217,10 @@ fn read_updated_problem<R: Threads + Sync, F: Folder, G: Gate + Sync>(
     ensures later { F.faults folder.old ≤ F.faults folder.new }
 {
     let tracks = read_listed(rt, alloc, gate, folder, names, settings, update, workers)?;
-    let lines = read_size_lines(alloc, folder, names, settings.sizes)?;
+    let said = read_attributes(alloc, folder, names, &tracks.base, &tracks.new, settings)?;
     let Updated { base, new } = tracks;
     drop(base);
-    problem_of(alloc, gate, settings, new, &lines)
+    problem_of(alloc, gate, settings, new, &said)
 }
 
 /// The tracks of the base files and of the updated files of a folder with these names.
@@ -252,10 +253,10 @@ fn read_listed<R: Threads + Sync, F: Folder, G: Gate + Sync>(
         names,
         &entries,
         settings.suffix,
-        settings.sizes,
+        Apart::of(settings),
         Some(update),
     );
-    let updates = list_updates(alloc, names, settings.suffix, update, settings.sizes)?;
+    let updates = list_updates(alloc, names, settings.suffix, update, Apart::of(settings))?;
     read_updated(
         rt, alloc, gate, folder, &entries, &updates, settings, update, workers,
     )
@@ -271,11 +272,11 @@ fn list_few_base(
     requires { length names.now < 2 ^ 32 }
     ensures between { IfErr result ComesBetween }
     ensures told { Gives ⊥ (λ entries. entries.items) result
-        (within_objects settings.now.limits.objects (spec.base_of settings.now.suffix.now update.now (option_copied settings.now.sizes) names.now)) }
+        (within_objects settings.now.limits.objects (spec.base_of settings.now.suffix.now update.now (apart_of (plain_settings settings.now)) names.now)) }
     ensures few { IfOk result (λ entries. length entries.items ≤ MOST_OBJECTS) }
     ensures numbers { IfOk result (λ entries. All (λ entry. entry.number < length names.now) entries.items) }
 {
-    let entries = list_base(alloc, names, settings.suffix, update, settings.sizes)?;
+    let entries = list_base(alloc, names, settings.suffix, update, Apart::of(settings))?;
     if entries.len() > settings.limits.objects as usize {
         return Err(too_many_objects(entries.len() as u32));
     }

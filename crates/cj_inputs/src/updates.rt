@@ -1,13 +1,14 @@
 //! The files of a folder that are updates of others, and those that are not.
 ghost use Rattle.std.specs.Prelude.{◌≡◌, ◌<◌, ◌≤◌, ◌^◌, length, not, filter, IfOk, All};
-ghost use Rattle.std.specs.Option.{option_copied};
+ghost use Rattle.cj_inputs.specs.InputFiles.{plain_apart};
 ghost use Rattle.cj_inputs.specs.Updates as spec;
 
+use crate::apart::Apart;
 use crate::input_files::{Entry, is_taken, list_inputs};
 use cj_io::Name;
 use std::alloc::{AllocError, Global};
 
-/// The files whose names end with the suffix and that are no updates, but for the file of sizes, in byte order of names, equal names in the
+/// The files whose names end with the suffix and that are no updates, but for those apart, in byte order of names, equal names in the
 /// folder's order.
 #[tactic(auto, unfolding(crate::specs::Updates::base_of))]
 pub fn list_base(
@@ -15,23 +16,23 @@ pub fn list_base(
     names: &[Name],
     suffix: &[u8],
     update: &[u8],
-    sizes: Option<&[u8]>,
+    apart: Apart<'_>,
 ) -> Result<Vec<Entry>, AllocError>
     requires { length names.now < 2 ^ 32 }
-    ensures value { IfOk result (λ entries. entries.items ≡ spec.base_of suffix.now update.now (option_copied sizes.entry) names.now) }
+    ensures value { IfOk result (λ entries. entries.items ≡ spec.base_of suffix.now update.now (plain_apart apart.entry) names.now) }
     ensures few { IfOk result (λ entries. length entries.items ≤ length names.now) }
     ensures numbers { IfOk result (λ entries. All (λ entry. entry.number < length names.now) entries.items) }
 {
-    let mut base = list_inputs(alloc, names, suffix, sizes)?;
-    leave_base(&mut base, suffix, update, sizes);
+    let mut base = list_inputs(alloc, names, suffix, apart)?;
+    leave_base(&mut base, suffix, update, apart);
     Ok(base)
 }
 
 /// Leaves the files that are no updates.
-fn leave_base(entries: &mut Vec<Entry>, suffix: &[u8], update: &[u8], sizes: Option<&[u8]>)
-    ensures { entries.new.items ≡ filter (λ entry. not (spec.is_update suffix.now update.now (option_copied sizes.entry) entry.name)) entries.old.items }
+fn leave_base(entries: &mut Vec<Entry>, suffix: &[u8], update: &[u8], apart: Apart<'_>)
+    ensures { entries.new.items ≡ filter (λ entry. not (spec.is_update suffix.now update.now (plain_apart apart.entry) entry.name)) entries.old.items }
 {
-    entries.retain(|entry| !is_update(entry.name.as_slice(), suffix, update, sizes));
+    entries.retain(|entry| !is_update(entry.name.as_slice(), suffix, update, apart));
 }
 
 /// The updates of files whose names end with the suffix: of each name the last one in the folder's order, in byte order of their own names.
@@ -41,14 +42,14 @@ pub fn list_updates(
     names: &[Name],
     suffix: &[u8],
     update: &[u8],
-    sizes: Option<&[u8]>,
+    apart: Apart<'_>,
 ) -> Result<Vec<Entry>, AllocError>
     requires { length names.now < 2 ^ 32 }
-    ensures value { IfOk result (λ entries. entries.items ≡ spec.updates_of suffix.now update.now (option_copied sizes.entry) names.now) }
+    ensures value { IfOk result (λ entries. entries.items ≡ spec.updates_of suffix.now update.now (plain_apart apart.entry) names.now) }
     ensures few { IfOk result (λ entries. length entries.items ≤ length names.now) }
     ensures numbers { IfOk result (λ entries. All (λ entry. entry.number < length names.now) entries.items) }
 {
-    let entries = list_inputs(alloc, names, update, sizes)?;
+    let entries = list_inputs(alloc, names, update, apart)?;
     let last = last_updates(alloc, &entries, suffix, update)?;
     Ok(last)
 }
@@ -95,10 +96,10 @@ fn ends_name(entry: &Entry, behind: &[Entry]) -> bool
 }
 
 /// Whether the file with this name is an update.
-pub fn is_update(name: &[u8], suffix: &[u8], update: &[u8], sizes: Option<&[u8]>) -> bool
-    ensures { result ≡ spec.is_update suffix.now update.now (option_copied sizes.entry) name.now }
+pub fn is_update(name: &[u8], suffix: &[u8], update: &[u8], apart: Apart<'_>) -> bool
+    ensures { result ≡ spec.is_update suffix.now update.now (plain_apart apart.entry) name.now }
 {
-    is_taken(name, update, sizes) && updated_name(name, update).ends_with(suffix)
+    is_taken(name, update, apart) && updated_name(name, update).ends_with(suffix)
 }
 
 /// The name that an update updates: what stands before the update suffix in its own.

@@ -1,5 +1,6 @@
 //! What a person is warned of before objects are screened. No clause speaks of it.
-use crate::input_files::{Entry, has_sizes};
+use crate::apart::Apart;
+use crate::input_files::Entry;
 use crate::updates::is_update;
 use cj_base::Window;
 use cj_io::{Gate, Name, Warning};
@@ -46,13 +47,14 @@ impl<'n> Tally<'n> {
     }
 }
 
-/// Warns of files that are not taken, of a folder with these names, where some may be updates. The file of sizes is none of them.
+/// Warns of files that are not taken, of a folder with these names, where some may be updates. The files of sizes and of primaries are
+/// none of them.
 pub fn warn_of_names<G: Gate>(
     gate: &G,
     names: &[Name],
     entries: &[Entry],
     suffix: &[u8],
-    sizes: Option<&[u8]>,
+    apart: Apart<'_>,
     update: Option<&[u8]>,
 ) {
     if !gate.is_warned() {
@@ -63,7 +65,7 @@ pub fn warn_of_names<G: Gate>(
     } else if entries.is_empty() {
         all_of(names).tell(gate, Warning::NothingTaken);
     }
-    left_out(names, suffix, sizes, update).tell(gate, Warning::LeftOut);
+    left_out(names, suffix, apart, update).tell(gate, Warning::LeftOut);
 }
 
 fn all_of(names: &[Name]) -> Tally<'_> {
@@ -78,15 +80,15 @@ fn all_of(names: &[Name]) -> Tally<'_> {
 fn left_out<'n>(
     names: &'n [Name],
     suffix: &[u8],
-    sizes: Option<&[u8]>,
+    apart: Apart<'_>,
     update: Option<&[u8]>,
 ) -> Tally<'n> {
     let mut others = Tally::none();
     for name in names {
         let name = name.as_slice();
         if is_nearly_named(name, suffix)
-            && !has_sizes(name, sizes)
-            && !updates(name, suffix, sizes, update)
+            && !apart.has(name)
+            && !updates(name, suffix, apart, update)
         {
             others.add_by_name(name);
         }
@@ -95,9 +97,9 @@ fn left_out<'n>(
 }
 
 /// Whether the file with this name is an update, where files may be updates.
-fn updates(name: &[u8], suffix: &[u8], sizes: Option<&[u8]>, update: Option<&[u8]>) -> bool {
+fn updates(name: &[u8], suffix: &[u8], apart: Apart<'_>, update: Option<&[u8]>) -> bool {
     match update {
-        Some(update) => is_update(name, suffix, update, sizes),
+        Some(update) => is_update(name, suffix, update, apart),
         None => false,
     }
 }

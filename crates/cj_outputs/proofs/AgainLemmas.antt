@@ -1,5 +1,5 @@
 -- A folder with a file beside its own, whose name is that of no input: the case that is asked of it, and the certificate that this file is.
-use Rattle.std.proofs.Common.{◌≡◌, ℕ, suc, ◌+◌, ◌<◌, ◌≤◌, Bool, true, false, not, ◌&&◌, cond, if◌then◌else◌, nat_le, nat_lt, ◌==◌, bytes_eq}
+use Rattle.std.proofs.Common.{◌≡◌, ℕ, suc, ◌+◌, ◌<◌, ◌≤◌, Bool, true, false, not, ◌&&◌, ◌||◌, cond, if◌then◌else◌, nat_le, nat_lt, ◌==◌, bytes_eq}
 use Rattle.std.proofs.Common.{List, [], ◌∷◌, ◌++◌, length, map, filter, Option, Some, None, option_map, Result, Ok, Err, refl, sym, ap, ◌∙◌, le-ltb, arith}
 use Rattle.std.specs.List.{AllByRecursion, position_from}
 use Rattle.std.specs.Cmp.Lexicographic.{slice_cmp}
@@ -18,13 +18,16 @@ use Rattle.cj_case.specs.PlainProblems.{PlainProblem}
 use Rattle.cj_status.specs.declared.status.Status.{Status}
 use Rattle.cj_status.specs.declared.status.Status.TheVariants as status
 use Rattle.cj_status.specs.declared.status.CertificateCause.TheVariants.{NoFile}
-use Rattle.cj_status.specs.declared.status.FileCause.TheVariants.{NoSizes}
+use Rattle.cj_status.specs.declared.status.FileCause.TheVariants.{NoPrimaries, NoSizes}
 use Rattle.cj_status.specs.declared.status.LimitFault.TheVariants.{Objects}
 use Rattle.cj_status.specs.Steps.{◌>>=◌}
 use Rattle.cj_inputs.specs.declared.input_files.Entry.{Entry}
 use Rattle.cj_inputs.specs.Cases.{case_asked, case_of_run, within_limits, within_objects}
 use Rattle.cj_inputs.specs.CheckInputs.{certificate_at, certificate_named}
-use Rattle.cj_inputs.specs.InputFiles.{entries_from, entry_cmp, has_sizes, inputs_of, is_taken}
+use Rattle.cj_inputs.specs.InputFiles.{PlainApart, apart_of, entries_from, entry_cmp, inputs_of, is_apart, is_taken}
+use Rattle.cj_inputs.specs.InputFiles as inputs
+use Rattle.cj_inputs.specs.ObjectAttributes.{PlainAttributes, attributes_asked}
+use Rattle.cj_inputs.specs.ObjectPrimaries.{ids_of, primaries_asked, primaries_at, primaries_of_file}
 use Rattle.cj_inputs.specs.ObjectSizes.{first_named, sizes_asked, sizes_at, sizes_of_file}
 use Rattle.cj_inputs.specs.Orders.{inserted, sorted}
 use Rattle.cj_inputs.specs.Readings.{checked_after, reading_after, reading_of, readings_after, readings_of, within}
@@ -99,14 +102,14 @@ abbrev read_or : {A : Type 0} → Result A Status → (List ℕ → Result A Sta
 read_or missing read None = missing
 read_or missing read (Some bytes) = read bytes
 
--- ---- the sizes
+-- ---- the files of sizes and of primaries
 
 sizes_by_bytes : (files : List FileBytes) (name : List ℕ) (number : Option ℕ)
     → sizes_at files name number ≡ read_or (Err (status.BadFile name 0 NoSizes)) (sizes_of_file name) (option_map (bytes_of files) number)
 sizes_by_bytes files name None = refl
 sizes_by_bytes files name (Some number) = refl
 
-sizes_again : (sizes : Option (List ℕ)) (name : List ℕ) (files later : List FileBytes) → has_sizes sizes name ≡ false
+sizes_again : (sizes : Option (List ℕ)) (name : List ℕ) (files later : List FileBytes) → inputs.has_name sizes name ≡ false
     → without_name name later ≡ without_name name files → sizes_asked later sizes ≡ sizes_asked files sizes
 unfolding sizes_asked
 sizes_again None name files later other others = refl
@@ -117,6 +120,38 @@ sizes_again (Some own) name files later other others =
     ∙ ap (read_or (Err (status.BadFile own 0 NoSizes)) (sizes_of_file own)) (first_found own later ∙ ap first_bytes same ∙ sym (first_found own files))
     ∙ sym (sizes_by_bytes files own (first_named own (names_of files)))
 
+primaries_by_bytes : (known : List (List ℕ)) (files : List FileBytes) (name : List ℕ) (number : Option ℕ)
+    → primaries_at known files name number ≡ read_or (Err (status.BadFile name 0 NoPrimaries)) (primaries_of_file known name) (option_map (bytes_of files) number)
+primaries_by_bytes known files name None = refl
+primaries_by_bytes known files name (Some number) = refl
+
+primaries_again : (known : List (List ℕ)) (primaries : Option (List ℕ)) (name : List ℕ) (files later : List FileBytes) → inputs.has_name primaries name ≡ false
+    → without_name name later ≡ without_name name files → primaries_asked known later primaries ≡ primaries_asked known files primaries
+unfolding primaries_asked
+primaries_again known None name files later other others = refl
+primaries_again known (Some own) name files later other others =
+    let fails : (file : FileBytes) → file.name ≡ name → has_name own file ≡ false = λ file is. ap (λ (n : List ℕ). bytes_eq n own) is ∙ other in
+    let same : filter (has_name own) later ≡ filter (has_name own) files = passing_alike (has_name own) name files later fails others in
+    let read =
+    primaries_by_bytes known later own (first_named own (names_of later))
+    ∙ ap (read_or (Err (status.BadFile own 0 NoPrimaries)) (primaries_of_file known own)) (first_found own later ∙ ap first_bytes same ∙ sym (first_found own files))
+    ∙ sym (primaries_by_bytes known files own (first_named own (names_of files))) in
+    ap (λ (r : Result (List (List ℕ)) Status). r >>= λ ids. Ok (Some ids)) read
+
+-- a name that is none of two
+apart_of_both : (a b : Bool) → (a || b) ≡ false → (a ≡ false) × (b ≡ false)
+apart_of_both true b is = absurd cc
+apart_of_both false b is = (refl, is)
+
+attributes_again : (settings : PlainSettings) (es : List PlainTrack) (name : List ℕ) (files later : List FileBytes) → is_apart (apart_of settings) name ≡ false
+    → without_name name later ≡ without_name name files → attributes_asked es [] later settings ≡ attributes_asked es [] files settings
+unfolding attributes_asked
+attributes_again settings es name files later apart others =
+    let both = apart_of_both (inputs.has_name settings.sizes name) (inputs.has_name settings.primaries name) apart in
+    let sizes = sizes_again settings.sizes name files later both.0 others in
+    let primaries = primaries_again (ids_of es ++ []) settings.primaries name files later both.1 others in
+    (λ i. sizes i >>= λ given. primaries i >>= λ named. Ok (record { sizes = given; primaries = named }))
+
 -- ---- the files that are taken
 
 -- the file of an entry
@@ -126,8 +161,8 @@ file_of all entry = output entry.name (bytes_of all entry.number)
 abbrev by_name : FileBytes → FileBytes → Ordering
 by_name a b = slice_cmp nat_cmp a.name b.name
 
-abbrev takes : List ℕ → Option (List ℕ) → FileBytes → Bool
-takes suffix sizes file = is_taken suffix sizes file.name
+abbrev takes : List ℕ → PlainApart → FileBytes → Bool
+takes suffix apart file = is_taken suffix apart file.name
 
 -- the order of what stands later is that of the first sort alone
 tie_stays : (o : Ordering) (m n : ℕ) → n < m → is_lt (ordering_then o (nat_cmp m n)) ≡ is_lt o
@@ -168,54 +203,54 @@ all_sorted P R [] all = tt
 all_sorted P R (x ∷ xs) all = all_inserted P R x (sorted R xs) all.0 (all_sorted P R xs all.1)
 
 -- entries from a number on have greater numbers than one before it
-numbers_behind : (suffix : List ℕ) (sizes : Option (List ℕ)) (before number : ℕ) (names : List (List ℕ)) → before < number
-    → AllByRecursion (λ (y : Entry). before < y.number) (entries_from suffix sizes number names)
-numbers_behind suffix sizes before number [] less = tt
-numbers_behind suffix sizes before number (name ∷ names) less =
-    chosen (is_taken suffix sizes name) (numbers_behind suffix sizes before (number + 1) names (omega arith))
+numbers_behind : (suffix : List ℕ) (apart : PlainApart) (before number : ℕ) (names : List (List ℕ)) → before < number
+    → AllByRecursion (λ (y : Entry). before < y.number) (entries_from suffix apart number names)
+numbers_behind suffix apart before number [] less = tt
+numbers_behind suffix apart before number (name ∷ names) less =
+    chosen (is_taken suffix apart name) (numbers_behind suffix apart before (number + 1) names (omega arith))
   where
-    chosen : (b : Bool) → AllByRecursion (λ (y : Entry). before < y.number) (entries_from suffix sizes (number + 1) names)
+    chosen : (b : Bool) → AllByRecursion (λ (y : Entry). before < y.number) (entries_from suffix apart (number + 1) names)
         → AllByRecursion (λ (y : Entry). before < y.number)
-        (cond b (record { name = name; number = number } ∷ entries_from suffix sizes (number + 1) names) (entries_from suffix sizes (number + 1) names))
+        (cond b (record { name = name; number = number } ∷ entries_from suffix apart (number + 1) names) (entries_from suffix apart (number + 1) names))
     chosen true rest = (less, rest)
     chosen false rest = rest
 
 -- the files of the entries in their order are the files that are taken, by name, ties as they stood
-sorted_from : (suffix : List ℕ) (sizes : Option (List ℕ)) (all : List FileBytes) (number : ℕ) (files : List FileBytes) → StandFrom all number files
-    → map (file_of all) (sorted entry_cmp (entries_from suffix sizes number (names_of files))) ≡ sorted by_name (filter (takes suffix sizes) files)
-sorted_from suffix sizes all number [] stand = refl
-sorted_from suffix sizes all number (file ∷ files) stand =
-    chosen (takes suffix sizes file) (sorted_from suffix sizes all (number + 1) files (stand_behind all number file files stand))
+sorted_from : (suffix : List ℕ) (apart : PlainApart) (all : List FileBytes) (number : ℕ) (files : List FileBytes) → StandFrom all number files
+    → map (file_of all) (sorted entry_cmp (entries_from suffix apart number (names_of files))) ≡ sorted by_name (filter (takes suffix apart) files)
+sorted_from suffix apart all number [] stand = refl
+sorted_from suffix apart all number (file ∷ files) stand =
+    chosen (takes suffix apart file) (sorted_from suffix apart all (number + 1) files (stand_behind all number file files stand))
   where
     entry : Entry
     entry = record { name = file.name; number = number }
 
     behind : List Entry
-    behind = entries_from suffix sizes (number + 1) (names_of files)
+    behind = entries_from suffix apart (number + 1) (names_of files)
 
-    chosen : (b : Bool) → map (file_of all) (sorted entry_cmp behind) ≡ sorted by_name (filter (takes suffix sizes) files)
+    chosen : (b : Bool) → map (file_of all) (sorted entry_cmp behind) ≡ sorted by_name (filter (takes suffix apart) files)
         → map (file_of all) (sorted entry_cmp (cond b (entry ∷ behind) behind))
-        ≡ sorted by_name (cond b (file ∷ filter (takes suffix sizes) files) (filter (takes suffix sizes) files))
+        ≡ sorted by_name (cond b (file ∷ filter (takes suffix apart) files) (filter (takes suffix apart) files))
     chosen true rest =
-        let greater = numbers_behind suffix sizes number (number + 1) (names_of files) (omega arith) in
+        let greater = numbers_behind suffix apart number (number + 1) (names_of files) (omega arith) in
         let here : file_of all entry ≡ file = ap (output file.name) (stands_first all number file files stand) in
         inserted_again all entry (sorted entry_cmp behind) (all_sorted (λ (y : Entry). number < y.number) entry_cmp behind greater)
         ∙ (λ i. inserted by_name (here i) (rest i))
     chosen false rest = rest
 
-files_taken : (suffix : List ℕ) (sizes : Option (List ℕ)) (files : List FileBytes)
-    → map (file_of files) (inputs_of suffix sizes (names_of files)) ≡ sorted by_name (filter (takes suffix sizes) files)
+files_taken : (suffix : List ℕ) (apart : PlainApart) (files : List FileBytes)
+    → map (file_of files) (inputs_of suffix apart (names_of files)) ≡ sorted by_name (filter (takes suffix apart) files)
 unfolding inputs_of
-files_taken suffix sizes files = sorted_from suffix sizes files 0 files (stand_all files)
+files_taken suffix apart files = sorted_from suffix apart files 0 files (stand_all files)
 
 -- a file of a name that is no input's is not taken
 none_taken : (settings : PlainSettings) (name : List ℕ) (files later : List FileBytes) → IsNoInput settings name → without_name name later ≡ without_name name files
-    → filter (takes settings.suffix settings.sizes) later ≡ filter (takes settings.suffix settings.sizes) files
-none_taken settings name files later apart others = passing_alike (takes settings.suffix settings.sizes) name files later fails others
+    → filter (takes settings.suffix (apart_of settings)) later ≡ filter (takes settings.suffix (apart_of settings)) files
+none_taken settings name files later apart others = passing_alike (takes settings.suffix (apart_of settings)) name files later fails others
   where
-    fails : (file : FileBytes) → file.name ≡ name → takes settings.suffix settings.sizes file ≡ false
+    fails : (file : FileBytes) → file.name ≡ name → takes settings.suffix (apart_of settings) file ≡ false
     fails file is =
-        ap (is_taken settings.suffix settings.sizes) is ∙ ap (λ (b : Bool). b && not (has_sizes settings.sizes name)) apart.suffix
+        ap (is_taken settings.suffix (apart_of settings)) is ∙ ap (λ (b : Bool). b && not (is_apart (apart_of settings) name)) apart.suffix
 
 -- ---- what they are read as
 
@@ -244,10 +279,10 @@ readings_by_files settings all before (entry ∷ entries) =
 abbrev within_files : ℕ → List FileBytes → Result (List FileBytes) Status
 within_files most files = if nat_le (length files) most then Ok files else Err (status.Limit (Objects (length files)))
 
--- the case that is made of the files that are taken, in order, and of sizes
-abbrev case_in : {S : Type 0} → (List PlainTrack → S → PlainProblem) → PlainSettings → List FileBytes → Result S Status → Result PlainProblem Status
-case_in made settings taken sizes =
-    within_files settings.limits.objects taken >>= λ files. files_after settings [] files >>= λ es. sizes >>= λ given. within_limits settings.limits.object_slots (made es given)
+-- the case that is made of the files that are taken, in order, and of what is said of their objects
+abbrev case_in : {S : Type 0} → (List PlainTrack → S → PlainProblem) → PlainSettings → List FileBytes → (List PlainTrack → Result S Status) → Result PlainProblem Status
+case_in made settings taken said =
+    within_files settings.limits.objects taken >>= λ files. files_after settings [] files >>= λ es. said es >>= λ given. within_limits settings.limits.object_slots (made es given)
 
 -- as many entries as files are within the limit where these are
 within_alike : {A : Type 0} (most : ℕ) (entries : List Entry) (files : List FileBytes) (f : List Entry → Result A Status) (g : List FileBytes → Result A Status)
@@ -262,26 +297,26 @@ within_alike most entries files f g many same =
 
 asked_by_files : (settings : PlainSettings) (files : List FileBytes)
     → case_asked files settings
-    ≡ case_in (case_of_run settings) settings (sorted by_name (filter (takes settings.suffix settings.sizes) files))
-    (sizes_asked files settings.sizes)
+    ≡ case_in (case_of_run settings) settings (sorted by_name (filter (takes settings.suffix (apart_of settings)) files))
+    (λ es. attributes_asked es [] files settings)
 unfolding case_asked
 asked_by_files settings files =
-    let entries = inputs_of settings.suffix settings.sizes (names_of files) in
-    let sizes = sizes_asked files settings.sizes in
-    let rest : List PlainTrack → Result PlainProblem Status = λ es. sizes >>= λ given. within_limits settings.limits.object_slots (case_of_run settings es given) in
+    let entries = inputs_of settings.suffix (apart_of settings) (names_of files) in
+    let said : List PlainTrack → Result PlainAttributes Status = λ es. attributes_asked es [] files settings in
+    let rest : List PlainTrack → Result PlainProblem Status = λ es. said es >>= λ given. within_limits settings.limits.object_slots (case_of_run settings es given) in
     within_alike settings.limits.objects entries (map (file_of files) entries) (λ es. readings_of settings files es >>= rest)
     (λ fs. files_after settings [] fs >>= rest) (sym (length-map entries (file_of files)))
     (ap (λ (r : Result (List PlainTrack) Status). r >>= rest) (readings_by_files settings files [] entries))
-    ∙ ap (λ (taken : List FileBytes). case_in (case_of_run settings) settings taken sizes) (files_taken settings.suffix settings.sizes files)
+    ∙ ap (λ (taken : List FileBytes). case_in (case_of_run settings) settings taken said) (files_taken settings.suffix (apart_of settings) files)
 
 -- the case that is asked is the same
 pub asked_again : (settings : PlainSettings) (name bytes : List ℕ) (files later : List FileBytes) → IsNoInput settings name → HoldAlso name bytes files later
     → case_asked later settings ≡ case_asked files settings
 asked_again settings name bytes files later apart hold =
     let taken = none_taken settings name files later apart hold.others in
-    let sizes = sizes_again settings.sizes name files later apart.sizes hold.others in
+    let said = λ (es : List PlainTrack). attributes_again settings es name files later apart.apart hold.others in
     asked_by_files settings later
-    ∙ (λ i. case_in (case_of_run settings) settings (sorted by_name (taken i)) (sizes i))
+    ∙ (λ i. case_in (case_of_run settings) settings (sorted by_name (taken i)) (λ es. said es i))
     ∙ sym (asked_by_files settings files)
 
 -- ---- the certificate

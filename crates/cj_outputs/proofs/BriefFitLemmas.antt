@@ -1,5 +1,5 @@
 -- The certificate in brief that a run writes fits, and its text is short enough for a check.
-use Rattle.std.proofs.Common.{◌≡◌, ℕ, ◌^◌, ◌+◌, ◌*◌, ◌≤◌, Bool, true, false, List, length, map, ap, refl, arith}
+use Rattle.std.proofs.Common.{◌≡◌, ℕ, ◌^◌, ◌+◌, ◌*◌, ◌<◌, ◌≤◌, Bool, true, false, List, length, map, ap, refl, arith}
 use Rattle.std.specs.Prelude.{All}
 use Rattle.std.specs.List.{enumerate_from}
 use Rattle.cj_interval.proofs.ListLemmas.{All-from_each, each_from_All}
@@ -8,6 +8,7 @@ use Rattle.cj_formats.specs.declared.cert_format.CertFormat.TheVariants.{Brief}
 use Rattle.cj_formats.specs.Formats.{most_objects_in}
 use Rattle.cj_case.specs.CaseLimits.{MAX_SIZE}
 use Rattle.cj_case.specs.PlainProblems.{PlainProblem}
+use Rattle.cj_case.specs.Primaries.{marks_of, named}
 use Rattle.cj_case.specs.Cells.{PlainCell}
 use Rattle.cj_case.specs.Leaves.{PlainLeaf}
 use Rattle.cj_hermite.proofs.RootLemmas.{IsRootOf}
@@ -17,6 +18,7 @@ use Rattle.cj_cert.specs.Accepted.{IsSupported}
 use Rattle.cj_cert.specs.Written.{shell_line, size_lines}
 use Rattle.cj_brief.specs.Accepted.{AcceptedInBrief}
 use Rattle.cj_brief.specs.Written.{written_in_brief}
+use Rattle.cj_brief.proofs.PrimaryLemmas.{few_named, named_below}
 use Rattle.cj_cert_text.specs.Fits.{FitsCell, FitsInBrief, FitsShell, FitsSize}
 use Rattle.cj_cert_text.specs.Texts.{brief_text}
 use Rattle.cj_cert_text.proofs.LengthLemmas.{brief_length}
@@ -34,6 +36,7 @@ pub record IsOfAnyRun (case : PlainProblem) : Type 0 where
   pub most : case.threshold ≤ 10 ^ 15
   pub sizes : All (λ size. size ≤ MAX_SIZE) case.sizes
   pub sized : length case.sizes ≡ length case.tracks
+  pub marked : marks_of case.primaries (length case.tracks) ≡ length case.tracks
 
 told_fits : (case : PlainProblem) → IsOfAnyRun case → AcceptedInBrief case (written_in_brief case) → All (FitsCell (most_objects_in Brief)) (written_in_brief case).cells
 told_fits case run accepted =
@@ -80,6 +83,9 @@ written_in_brief_fits case run accepted =
       threshold = omega arith;
       objects = run.few;
       sizes = own_sizes case run;
+      primaries =
+          All-from_each (λ object. object < most_objects_in Brief) (named case.primaries)
+          (named_below (most_objects_in Brief) case.primaries (length case.tracks) run.marked run.few);
       shells = own_shells case run accepted;
       cells = told_fits case run accepted;
     }
@@ -88,17 +94,23 @@ told_cells : (case : PlainProblem) → (written_in_brief case).cells ≡ told_le
 unfolding written_in_brief
 told_cells case = refl
 
+told_primaries : (case : PlainProblem) → length (written_in_brief case).primaries ≡ length (named case.primaries)
+unfolding written_in_brief
+told_primaries case = refl
+
 -- ---- how long its text is
 
 text_length : (case : PlainProblem) → IsOfAnyRun case → AcceptedInBrief case (written_in_brief case) → (objects told : ℕ) → length case.tracks ≤ objects → length (told_leaves case) ≤ told
-    → length (brief_text (written_in_brief case)) ≤ 204 + objects * 89 + told * 53
+    → length (brief_text (written_in_brief case)) ≤ 204 + objects * 103 + told * 53
 text_length case run accepted objects told few few_told =
     let c = written_in_brief case in
     let sized = run.sized in
     let sizes = few_sizes case c.sizes accepted.sizes in
     let shells = few_shells case c.shells accepted.shells in
+    let primaries = few_named case.primaries (length case.tracks) run.marked in
+    let primary_lines = told_primaries case in
     let cells = ap (λ (ss : List PlainLeaf). length ss) (told_cells case) in
-    brief_length objects told c (written_in_brief_fits case run accepted) (omega arith) (omega arith) (omega arith)
+    brief_length objects told c (written_in_brief_fits case run accepted) (omega arith) (omega arith) (omega arith) (omega arith)
 
 -- a check reads what a run wrote within its limits
 pub written_in_brief_short : (large : Bool) (case : PlainProblem) → IsOfAnyRun case → AcceptedInBrief case (written_in_brief case) → length case.tracks ≤ (limits_of large).objects

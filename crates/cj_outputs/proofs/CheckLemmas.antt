@@ -13,7 +13,7 @@ use Rattle.cj_hermite.specs.Roots.{slots_of}
 use Rattle.cj_case.specs.Slots.{slot_count}
 use Rattle.cj_words.specs.Commands.{PlainChecking}
 use Rattle.cj_words.specs.Limits.{most_certificate_bytes}
-use Rattle.cj_case.specs.Leaves.{PlainLeaf, plain_leaf}
+use Rattle.cj_case.specs.Leaves.{PlainLeaf}
 use Rattle.cj_cells.specs.Lists.{list_candidates}
 use Rattle.cj_cert.specs.Certificates.{line_count}
 use Rattle.cj_cert.specs.Written.{box_lines, line_in_slot, shell_line, written}
@@ -26,7 +26,7 @@ use Rattle.cj_outputs.specs.declared.findings.Findings.{Findings}
 use Rattle.cj_outputs.specs.Again.{IsAcceptedLater}
 use Rattle.cj_outputs.specs.Checks.{AcceptedReport, AcceptedText, Vouches, VouchesReport}
 use Rattle.cj_outputs.specs.Either.{PlainAnyCertificate, cells_in, text_in}
-use Rattle.cj_outputs.specs.Findings.{AreFound, case_in}
+use Rattle.cj_outputs.specs.Findings.{case_in}
 use Rattle.cj_outputs.specs.Outcome.{tells_of}
 use Rattle.cj_outputs.specs.Rewrites.{RenewedText, Renews}
 use Rattle.cj_outputs.proofs.CertificateLemmas.{leaves_alike}

@@ -14,7 +14,7 @@ use Rattle.cj_kvn.specs.declared.text_fault.TextFault.TheVariants.{Memory, At}
 use Rattle.cj_formats.specs.declared.cert_cause.CertCause.{CertCause}
 use Rattle.cj_cert_text.specs.Readers.{Gives}
 use Rattle.cj_cert_text.specs.Reading.{Fault, and_then, reading, reading_in_brief}
-use Rattle.cj_cert_text.specs.Texts.{box_text, brief_text, cell_text, row, shell_text, size_text, text_of}
+use Rattle.cj_cert_text.specs.Texts.{box_text, brief_text, cell_text, primary_text, row, shell_text, size_text, text_of}
 use Rattle.cj_cert_text.proofs.ChainLemmas.{brief_again, reading_again}
 use Rattle.cj_outputs.specs.Either.{PlainAnyCertificate, InFull, InBrief, FitsIn, MayRead, any_reading, begins_in_brief, text_in}
 
@@ -60,7 +60,7 @@ begins_so c = ap begins (decimal_digit 3 (omega arith))
     begins digits = begins_in_brief (
         ((codes "CONJ-CERT" ++ 32 ∷ digits) ++ 10 ∷ []) ++ row (codes "WINDOW") (pos c.first ∷ pos c.last ∷ []) ++ row (codes "THRESHOLD") (pos c.threshold ∷ []) ++ row
         (codes "OBJECTS") (pos c.objects ∷ [])
-        ++ flat_map size_text c.sizes ++ flat_map shell_text c.shells ++ flat_map cell_text c.cells ++ row (codes "END") []
+        ++ flat_map size_text c.sizes ++ flat_map primary_text c.primaries ++ flat_map shell_text c.shells ++ flat_map cell_text c.cells ++ row (codes "END") []
         )
 
 begins_otherwise : (c : PlainCertificate) → begins_in_brief (text_of c) ≡ false

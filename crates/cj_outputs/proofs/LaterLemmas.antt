@@ -14,6 +14,7 @@ use Rattle.cj_track.specs.Tracks.{plain_track}
 use Rattle.cj_case.specs.declared.problem.Problem.{Problem}
 use Rattle.cj_case.specs.CaseLimits.{MAX_SIZE}
 use Rattle.cj_case.specs.PlainProblems.{PlainProblem}
+use Rattle.cj_case.specs.Primaries.{marks_of}
 use Rattle.cj_case.specs.Problems.{plain_problem}
 use Rattle.cj_case.specs.Slots.{slot_count}
 use Rattle.cj_case.specs.Leaves.{PlainLeaf}
@@ -97,6 +98,7 @@ of_any_run problem sizes =
       most = problem.most;
       sizes = sizes;
       sized = omega arith;
+      marked = subst (λ (n : ℕ). marks_of problem.primaries n ≡ n) (sym objects) problem.marked;
     }
 
 -- ---- a text that is accepted later

@@ -11,6 +11,7 @@ pub mod EndLemmas
 pub mod LaterLemmas
 pub mod MessageLemmas
 pub mod PairSortLemmas
+pub mod PrimaryCountLemmas
 pub mod PutLemmas
 pub mod ReportTextLemmas
 pub mod ThinnedLemmas

@@ -23,7 +23,7 @@ pub report_is : (found : Findings) (leaves : List Leaf) (es : List Encounter) (x
     leaves ≡ leaves_met found.lines → es ≡ found.encounters.items → xs ≡ found.closest.items → bs ≡ found.messages.items
     → (let case = case_in found in (approach : List PlainLeaf → Option PlainClosest) (has : List PlainLeaf → Bool) → map some_closest xs ≡ map approach (groups_in (plain_leaves leaves) es)
     → bs ≡ map has (groups_in (plain_leaves leaves) es)
-    → text ≡ report_of case.first case.last case.threshold case.tracks (told found.wanted.tells.sizes case.sizes) found.wanted.tells.coverage approach has (groups_in (plain_leaves leaves) es))
+    → text ≡ report_of case.first case.last case.threshold case.tracks (told found.wanted.tells.sizes case.sizes) case.primaries found.wanted.tells.coverage approach has (groups_in (plain_leaves leaves) es))
     → text ≡ report_bytes found.wanted.tells (case_in found) (list_candidates (case_in found))
 report_is found leaves es xs bs text are p q r b given =
     let case = case_in found in
@@ -31,14 +31,14 @@ report_is found leaves es xs bs text are p q r b given =
     let each = ap (map some_closest) r ∙ are.closest ∙ sym (λ i. map (closest_of case) (groups_in (plain_leaves (p i)) (q i))) in
     let noted = b ∙ are.messages ∙ sym (λ i. map (has_message case) (groups_in (plain_leaves (p i)) (q i))) in
     given (closest_of case) (has_message case) each noted
-    ∙ ap (report_of case.first case.last case.threshold case.tracks (told found.wanted.tells.sizes case.sizes) found.wanted.tells.coverage (closest_of case) (has_message case)) groups
+    ∙ ap (report_of case.first case.last case.threshold case.tracks (told found.wanted.tells.sizes case.sizes) case.primaries found.wanted.tells.coverage (closest_of case) (has_message case)) groups
 
 -- the text that is made of the pairs that are not unchanged is their report
 pub changes_are : (changes : Changes) (leaves : List Leaf) (es : List Encounter) (xs : List Closest) (bs : List Bool) (text : List ℕ) → AreChanges changes →
     leaves ≡ changes.leaves.items → es ≡ changes.met.encounters.items → xs ≡ changes.met.closest.items → bs ≡ changes.met.messages.items
     → (let case = plain_problem changes.problem in (approach : List PlainLeaf → Option PlainClosest) (has : List PlainLeaf → Bool)
     → map some_closest xs ≡ map approach (groups_in (plain_leaves leaves) es) → bs ≡ map has (groups_in (plain_leaves leaves) es)
-    → text ≡ changed_of case.first case.last case.threshold case.tracks (told changes.tells.sizes case.sizes) changes.tells.coverage approach has (groups_in (plain_leaves leaves) es))
+    → text ≡ changed_of case.first case.last case.threshold case.tracks (told changes.tells.sizes case.sizes) case.primaries changes.tells.coverage approach has (groups_in (plain_leaves leaves) es))
     → text ≡ changed_bytes changes.tells (plain_problem changes.problem) (plain_leaves changes.leaves.items)
 changes_are changes leaves es xs bs text are p q r b given =
     let case = plain_problem changes.problem in
@@ -47,7 +47,7 @@ changes_are changes leaves es xs bs text are p q r b given =
     let each = ap (map some_closest) r ∙ met.closest ∙ sym (λ i. map (closest_of case) (groups_in (plain_leaves (p i)) (q i))) in
     let noted = b ∙ met.messages ∙ sym (λ i. map (has_message case) (groups_in (plain_leaves (p i)) (q i))) in
     given (closest_of case) (has_message case) each noted
-    ∙ ap (changed_of case.first case.last case.threshold case.tracks (told changes.tells.sizes case.sizes) changes.tells.coverage (closest_of case) (has_message case)) groups
+    ∙ ap (changed_of case.first case.last case.threshold case.tracks (told changes.tells.sizes case.sizes) case.primaries changes.tells.coverage (closest_of case) (has_message case)) groups
 
 -- a text that is added behind a summary
 pub added : (summary told one two bytes : List ℕ) → bytes ≡ two → two ≡ one ++ told → one ≡ summary → bytes ≡ summary ++ told

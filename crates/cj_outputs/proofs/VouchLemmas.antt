@@ -50,21 +50,21 @@ spans_split case cells split spans = record {
 report_made : (tells : Tells) (case : PlainProblem) (ss : List PlainLeaf) (met : Meetings) (es : List Encounter) (xs : List Closest) (bs : List Bool) (text : List ℕ)
     → AreMeetings case ss met → es ≡ met.encounters.items → xs ≡ met.closest.items → bs ≡ met.messages.items
     → ((approach : List PlainLeaf → Option PlainClosest) (has : List PlainLeaf → Bool) → map some_closest xs ≡ map approach (groups_in ss es) → bs ≡ map has (groups_in ss es)
-    → text ≡ report_of case.first case.last case.threshold case.tracks (told tells.sizes case.sizes) tells.coverage approach has (groups_in ss es))
+    → text ≡ report_of case.first case.last case.threshold case.tracks (told tells.sizes case.sizes) case.primaries tells.coverage approach has (groups_in ss es))
     → text ≡ report_bytes tells case ss
 report_made tells case ss met es xs bs text are p q r given =
     let groups : groups_in ss es ≡ encounters_of ss = ap (groups_in ss) p ∙ are.encounters.groups in
     let each = ap (map some_closest) q ∙ are.closest ∙ sym (ap (λ (es : List Encounter). map (closest_of case) (groups_in ss es)) p) in
     let noted = r ∙ are.messages ∙ sym (ap (λ (es : List Encounter). map (has_message case) (groups_in ss es)) p) in
     given (closest_of case) (has_message case) each noted
-    ∙ ap (report_of case.first case.last case.threshold case.tracks (told tells.sizes case.sizes) tells.coverage (closest_of case) (has_message case)) groups
+    ∙ ap (report_of case.first case.last case.threshold case.tracks (told tells.sizes case.sizes) case.primaries tells.coverage (closest_of case) (has_message case)) groups
 
 -- the same where there is memory for it
 pub report_if_made : (tells : Tells) (case : PlainProblem) (ss : List PlainLeaf) (met : Meetings) (es : List Encounter) (xs : List Closest) (bs : List Bool)
     (r : Result (Vec ℕ Global) AllocError) → AreMeetings case ss met → es ≡ met.encounters.items → xs ≡ met.closest.items → bs ≡ met.messages.items
     → IfOk r (λ text. (approach : List PlainLeaf → Option PlainClosest) (has : List PlainLeaf → Bool) → map some_closest xs ≡ map approach (groups_in ss es)
     → bs ≡ map has (groups_in ss es)
-    → text.items ≡ report_of case.first case.last case.threshold case.tracks (told tells.sizes case.sizes) tells.coverage approach has (groups_in ss es))
+    → text.items ≡ report_of case.first case.last case.threshold case.tracks (told tells.sizes case.sizes) case.primaries tells.coverage approach has (groups_in ss es))
     → IfOk r (λ text. text.items ≡ report_bytes tells case ss)
 report_if_made tells case ss met es xs bs (Ok text) are p q r given = report_made tells case ss met es xs bs text.items are p q r given
 report_if_made tells case ss met es xs bs (Err e) are p q r given = tt

@@ -3,7 +3,7 @@ use Rattle.std.specs.Prelude.{◌≡◌, ℕ, Bool, false, not, List, [], ◌∷
 use Rattle.std.specs.Str.{bytes_eq}
 use Rattle.cj_io.specs.declared.file.FileBytes.{FileBytes}
 use Rattle.cj_words.specs.Settings.{PlainSettings}
-use Rattle.cj_inputs.specs.InputFiles.{has_sizes, has_suffix}
+use Rattle.cj_inputs.specs.InputFiles.{apart_of, has_suffix, is_apart}
 use Rattle.cj_outputs.specs.Outcome.{accepted_output, output, outputs_checked}
 
 -- the file has this name
@@ -19,10 +19,10 @@ pub record HoldAlso (name bytes : List ℕ) (files later : List FileBytes) : Typ
   pub once : filter (has_name name) later ≡ output name bytes ∷ []
   pub others : without_name name later ≡ without_name name files
 
--- a name that is neither that of an ephemeris nor that of the file of sizes
+-- a name that is neither that of an ephemeris nor that of the file of sizes or of primaries
 pub record IsNoInput (settings : PlainSettings) (name : List ℕ) : Type 0 where
   pub suffix : has_suffix settings.suffix name ≡ false
-  pub sizes : has_sizes settings.sizes name ≡ false
+  pub apart : is_apart (apart_of settings) name ≡ false
 
 -- whatever its name, a check of such later files accepts it, which reads one in brief where that is asked
 abbrev pub IsAcceptedLater : PlainSettings → Bool → List FileBytes → List ℕ → Type 0

@@ -29,7 +29,7 @@ pub record AcceptedText (case : PlainProblem) (bytes : List ℕ) : Type 0 where
 -- split the common ticks of every pair. Each pair is within its bound at its closest approach, and at no tick of the encounter more than one
 -- millimetre nearer.
 pub record AcceptedReport (tells : Tells) (case : PlainProblem) (cells : List PlainLeaf) (bytes : List ℕ) : Type 0 where
-  pub text : bytes ≡ report_of case.first case.last case.threshold case.tracks (told tells.sizes case.sizes) tells.coverage
+  pub text : bytes ≡ report_of case.first case.last case.threshold case.tracks (told tells.sizes case.sizes) case.primaries tells.coverage
       (closest_of case) (has_message case) (encounters_of cells)
   pub split : SplitsTicks case (encounters_of cells)
   pub nearest : All (HasNearest case) (encounters_of cells)

@@ -71,7 +71,7 @@ encounters_in case = encounters_of (list_candidates case)
 -- the report of a case with these leaves, which may tell the sizes and what objects cover; it tells which encounters have a message
 abbrev pub report_bytes : Tells → PlainProblem → List PlainLeaf → List ℕ
 report_bytes tells case leaves =
-    report_of case.first case.last case.threshold case.tracks (told tells.sizes case.sizes) tells.coverage
+    report_of case.first case.last case.threshold case.tracks (told tells.sizes case.sizes) case.primaries tells.coverage
     (closest_of case) (has_message case) (encounters_of leaves)
 
 -- its certificate in a format
@@ -155,7 +155,7 @@ list_anew old new = list_of (is_candidate_anew old new) new
 -- the report of a case with these leaves of the pairs that are not unchanged
 abbrev pub changed_bytes : Tells → PlainProblem → List PlainLeaf → List ℕ
 changed_bytes tells case leaves =
-    changed_of case.first case.last case.threshold case.tracks (told tells.sizes case.sizes) tells.coverage
+    changed_of case.first case.last case.threshold case.tracks (told tells.sizes case.sizes) case.primaries tells.coverage
     (closest_of case) (has_message case) (encounters_of leaves)
 
 abbrev pub changed_output : List ℕ → FileBytes
@@ -257,6 +257,7 @@ settings_of_selfrun selfrun = record {
   suffix = codes ".oem";
   as_hermite3 = false;
   sizes = None;
+  primaries = None;
   coverage = false;
   must_cover = false;
   large = false;

@@ -1,4 +1,4 @@
--- Encounters whose spans split the common ticks of every pair, or of those pairs that are not unchanged; and what stays so of the others.
+-- Encounters whose spans split the common ticks of every pair that is looked at, or of those that are not unchanged; and what stays so of the others.
 use Rattle.std.specs.Prelude.{◌≡◌, ℕ, ◌<◌, ◌↔◌, true, false, List, Any}
 use Rattle.cj_hermite.specs.Distance.{IsNear, IsFar, IsInBand}
 use Rattle.cj_case.specs.PlainProblems.{PlainProblem, threshold_of}
@@ -8,7 +8,7 @@ use Rattle.cj_case.specs.declared.kind.Kind.TheVariants.{Near, Undecided}
 use Rattle.cj_case.specs.Leaves.{PlainLeaf}
 use Rattle.cj_meet.specs.Spans.{LiesInSpan}
 
--- The spans of these encounters split the common ticks of every pair of objects a and b. A span holds common ticks only.
+-- The spans of these encounters split the common ticks of every pair of objects a and b with a primary. A span holds such ticks only.
 pub record SplitsTicks (case : PlainProblem) (encounters : List (List PlainLeaf)) : Type 0 where
   -- at each tick of a near span the distance is at most the pair's threshold
   pub near : (a b m : ℕ) → Any (LiesInSpan Near a b m) encounters
@@ -20,8 +20,8 @@ pub record SplitsTicks (case : PlainProblem) (encounters : List (List PlainLeaf)
   pub outside : (a b m : ℕ) → IsCommonOf case a b m → ¬ Any (LiesInSpan Near a b m) encounters → ¬ Any (LiesInSpan Undecided a b m) encounters
       → OfObjectsAt case a b m (λ c d. IsFar c d (threshold_of case a b) m)
 
--- The spans of these encounters split the common ticks of every pair of objects of the new case that is not unchanged. A span holds common ticks
--- only.
+-- The spans of these encounters split the common ticks of every pair of objects of the new case with a primary that is not unchanged. A span
+-- holds such ticks only.
 pub record SplitsChangedTicks (old new : PlainProblem) (encounters : List (List PlainLeaf)) : Type 0 where
   pub near : (a b m : ℕ) → Any (LiesInSpan Near a b m) encounters
       → IsCommonOf new a b m × OfObjectsAt new a b m (λ c d. IsNear c d (threshold_of new a b) m)

@@ -1,7 +1,8 @@
 -- What is counted in a case.
-use Rattle.std.specs.Prelude.{ℕ, ◌-◌, Bool, List, length, count_by}
+use Rattle.std.specs.Prelude.{ℕ, ◌-◌, Bool, not, List, Option, Some, None, filter, length, count_by}
 use Rattle.cj_case.specs.PlainProblems.{PlainProblem}
 use Rattle.cj_case.specs.Pairs.{pairs_of}
+use Rattle.cj_case.specs.Primaries.{concerns}
 use Rattle.cj_case.specs.declared.kind.Kind.{Kind}
 use Rattle.cj_case.specs.declared.kind.Kind.TheVariants.{Far, Near, Undecided}
 use Rattle.cj_case.specs.Leaves.{PlainLeaf, same_kind}
@@ -17,9 +18,14 @@ use Rattle.cj_outputs.specs.Messages.{has_message}
 abbrev pub is_of : Kind → PlainLeaf → Bool
 is_of kind s = same_kind kind s.kind
 
--- how many pairs there are, and how many of them are kept
+-- how many pairs have a primary, and how many of them are kept
 abbrev pub pair_count : PlainProblem → ℕ
-pair_count case = length (pairs_of (length case.tracks))
+pair_count case = length (filter (concerns case) (pairs_of (length case.tracks)))
+
+-- how many objects are not marked
+abbrev pub secondary_count : Option (List Bool) → ℕ
+secondary_count None = 0
+secondary_count (Some marks) = count_by not marks
 
 abbrev pub kept_count : PlainProblem → ℕ
 kept_count case = length (pairs_kept case)

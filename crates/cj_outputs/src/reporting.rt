@@ -177,6 +177,7 @@ fn certificate_by_blocks(
         alloc,
         &measured.shells,
         problem.sizes.as_slice(),
+        &problem.primaries,
         problem.threshold,
     )?;
     certificate_in_blocks(alloc, problem, measured, &kept, leaves)

@@ -93,7 +93,13 @@ fn by_blocks(
     ensures accepted { IfOk result (λ c. Accepted (plain_problem problem.now) (plain_certificate c)) }
 {
     let shells = listed_shells(alloc, &certificate)?;
-    let kept = kept_pairs(alloc, &shells, problem.sizes.as_slice(), problem.threshold)?;
+    let kept = kept_pairs(
+        alloc,
+        &shells,
+        problem.sizes.as_slice(),
+        &problem.primaries,
+        problem.threshold,
+    )?;
     in_version_2(alloc, problem, certificate, &kept)
 }
 

@@ -7,7 +7,7 @@ use cj_advice::{
 };
 use cj_base::{Limits, Tick};
 use cj_epoch::EpochFault;
-use cj_formats::{CertCause, CheckCause, OemCause, SizesCause};
+use cj_formats::{CertCause, CheckCause, OemCause, PrimariesCause, SizesCause};
 use cj_host::{Notice, asked_notice, notice_text};
 use cj_io::Name;
 use cj_kvn::KvnCause;
@@ -71,7 +71,7 @@ fn a_cause_is_found_by_what_a_fault_line_prints(rt: HostRuntime) {
     for cause in &EVERY {
         assert_eq!(rt; cause_named(cause_word(*cause)), Some(*cause));
     }
-    let found: [(&[u8], Cause); 5] = [
+    let found: [(&[u8], Cause); 6] = [
         (b"Words", Cause::Words),
         (b"Value", Cause::Value),
         (
@@ -81,6 +81,10 @@ fn a_cause_is_found_by_what_a_fault_line_prints(rt: HostRuntime) {
         (
             b"Sizes Kvn NoLineForm",
             Cause::File(FileReason::Sizes(SizesCause::Kvn(KvnCause::NoLineForm))),
+        ),
+        (
+            b"Primaries Twice",
+            Cause::File(FileReason::Primaries(PrimariesCause::Twice)),
         ),
         (b"Window", Cause::Limit(LimitCause::Window)),
     ];
@@ -356,6 +360,8 @@ fn cause_for(reason: FileReason) -> FileCause {
         FileReason::MixedFrames => FileCause::MixedFrames,
         FileReason::Sizes(cause) => FileCause::Sizes(cause),
         FileReason::NoSizes => FileCause::NoSizes,
+        FileReason::Primaries(cause) => FileCause::Primaries(cause),
+        FileReason::NoPrimaries => FileCause::NoPrimaries,
         FileReason::Uncovered => FileCause::Uncovered {
             micros: Tick::FIRST.micros,
         },
@@ -486,7 +492,8 @@ fn option_behind(option: Opt) -> Option<Opt> {
         Opt::Objects => Some(Opt::Minutes),
         Opt::Minutes => Some(Opt::AsHermite3),
         Opt::AsHermite3 => Some(Opt::Sizes),
-        Opt::Sizes => Some(Opt::CertVersion),
+        Opt::Sizes => Some(Opt::Primaries),
+        Opt::Primaries => Some(Opt::CertVersion),
         Opt::CertVersion => Some(Opt::Update),
         Opt::Update => Some(Opt::Changed),
         Opt::Changed => Some(Opt::Report),

@@ -32,6 +32,7 @@ const USUAL: Settings = Settings {
     suffix: b".oem",
     as_hermite3: false,
     sizes: None,
+    primaries: None,
     coverage: false,
     must_cover: false,
     large: false,
@@ -117,6 +118,7 @@ fn all_that_can_be_asked_of_a_screening(rt: HostRuntime) {
             suffix: b".txt",
             as_hermite3: true,
             sizes: Some(b"r.txt"),
+            primaries: None,
             coverage: false,
             must_cover: false,
             large: false,
@@ -144,6 +146,7 @@ fn all_that_can_be_asked_of_a_check(rt: HostRuntime) {
             suffix: b".txt",
             as_hermite3: true,
             sizes: Some(b"r.txt"),
+            primaries: None,
             coverage: false,
             must_cover: false,
             large: false,
@@ -363,6 +366,7 @@ const OVER_A_SKY: Settings = Settings {
     suffix: b".oem",
     as_hermite3: false,
     sizes: None,
+    primaries: None,
     coverage: false,
     must_cover: false,
     large: true,
@@ -398,6 +402,51 @@ fn a_whole_sky_is_asked_of_a_screening_and_of_a_check(rt: HostRuntime) {
         assert_eq!(rt; read_command(&words), Ok(due), "{line}");
     }
     assert_eq!(rt; option_name(Opt::Large), b"--large".as_slice());
+}
+
+/// The settings of a run over pairs with a primary where all other options are left out.
+const OVER_PRIMARIES: Settings = Settings {
+    threshold: 5000,
+    from: None,
+    to: None,
+    suffix: b".oem",
+    as_hermite3: false,
+    sizes: None,
+    primaries: Some(b"fleet.txt"),
+    coverage: false,
+    must_cover: false,
+    large: false,
+    limits: Limits::USUAL,
+};
+
+#[test]
+fn primaries_are_asked_of_a_screening_and_of_a_check(rt: HostRuntime) {
+    let screening = Command::Screen(Screening {
+        settings: OVER_PRIMARIES,
+        workers: 1,
+        originator: b"CONJ",
+        cells: 4_000_000,
+        format: CertFormat::Brief,
+        rtn: false,
+    });
+    let checking = Command::Check(Checking {
+        settings: OVER_PRIMARIES,
+        certificate: b"screen.cert",
+        report: None,
+        update: None,
+        brief: true,
+    });
+    let cases = [
+        ("screen . --primaries fleet.txt", screening),
+        ("screen . --primaries=fleet.txt --brief", screening),
+        ("check . --primaries fleet.txt", checking),
+        ("check . --brief --primaries=fleet.txt", checking),
+    ];
+    for (line, due) in cases {
+        let words = words(rt.alloc(), line).expect(&rt, "no fault");
+        assert_eq!(rt; read_command(&words), Ok(due), "{line}");
+    }
+    assert_eq!(rt; option_name(Opt::Primaries), b"--primaries".as_slice());
 }
 
 #[test]

@@ -2,9 +2,9 @@
 use crate::lines::first_wrong;
 use crate::usage_faults::{BAD_THRESHOLD, WORDS};
 use cj_advice::{Advice, Cause, EVERY, FileReason, advice_on};
-use cj_formats::{OemCause, SizesCause};
+use cj_formats::{OemCause, PrimariesCause, SizesCause};
 use cj_oem::{OemFault, read_oem};
-use cj_sizes::{SizesFault, read_sizes};
+use cj_sizes::{PrimariesFault, SizesFault, read_primaries, read_sizes};
 use std::alloc::{AllocError, Global};
 use std::panic::Expect;
 
@@ -78,6 +78,15 @@ COMMENT hard-body radii
 2025-002A 0.75
 ";
 
+const FLEET: &str = "\
+COMMENT our own
+2025-001A
+2025-001B
+";
+
+/// The designators of all objects.
+const KNOWN: [&[u8]; 2] = [b"2025-001A", b"2025-001B"];
+
 /// A text with `\xNN` as the byte that it writes.
 fn with_bytes(alloc: Global, text: &[u8]) -> Result<Vec<u8>, AllocError> {
     let mut bytes = Vec::new(alloc);
@@ -133,6 +142,16 @@ fn sizes_cause(alloc: Global, text: &[u8]) -> Option<SizesCause> {
     }
 }
 
+fn primaries_cause(alloc: Global, text: &[u8]) -> Option<PrimariesCause> {
+    if text.len() > 10_000 {
+        return None;
+    }
+    match read_primaries(alloc, KNOWN.as_slice(), text) {
+        Err(PrimariesFault::At { cause, .. }) => Some(cause),
+        _ => None,
+    }
+}
+
 /// With which cause an ephemeris is refused that has what is wrong in place of what is right.
 fn of_ephemeris(alloc: Global, advice: &Advice) -> Result<Option<OemCause>, AllocError> {
     let text = match exchanged(alloc, USUAL, advice)? {
@@ -157,6 +176,7 @@ fn the_files_are_taken(rt: HostRuntime) {
         assert!(rt; read_oem(alloc, b"a.oem", text.as_bytes(), false).is_ok());
     }
     assert!(rt; read_sizes(alloc, RADII.as_bytes()).is_ok());
+    assert!(rt; read_primaries(alloc, KNOWN.as_slice(), FLEET.as_bytes()).is_ok());
 }
 
 #[test]
@@ -188,6 +208,19 @@ fn what_is_shown_of_sizes_is_refused_with_the_cause(rt: HostRuntime) {
         };
         let text = exchanged(alloc, RADII, &advice_on(*cause)).expect(&rt, "no fault");
         let found = text.and_then(|text| sizes_cause(alloc, &text));
+        assert_eq!(rt; found, Some(due));
+    }
+}
+
+#[test]
+fn what_is_shown_of_primaries_is_refused_with_the_cause(rt: HostRuntime) {
+    let alloc = rt.alloc();
+    for cause in &EVERY {
+        let Cause::File(FileReason::Primaries(due)) = *cause else {
+            continue;
+        };
+        let text = exchanged(alloc, FLEET, &advice_on(*cause)).expect(&rt, "no fault");
+        let found = text.and_then(|text| primaries_cause(alloc, &text));
         assert_eq!(rt; found, Some(due));
     }
 }

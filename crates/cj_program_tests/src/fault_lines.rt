@@ -1,6 +1,6 @@
 //! The lines that say why a run failed.
 use cj_epoch::EpochFault;
-use cj_formats::{CertCause, CheckCause, OemCause, SizesCause};
+use cj_formats::{CertCause, CheckCause, OemCause, PrimariesCause, SizesCause};
 use cj_io::Name;
 use cj_kvn::KvnCause;
 use cj_status::{CertificateCause, FileCause, LimitFault, Status, fault_text, push_name};
@@ -8,7 +8,7 @@ use std::panic::Expect;
 
 #[test]
 fn the_cause_of_a_refused_file_is_told_by_its_name(rt: HostRuntime) {
-    let cases: [(&[u8], u32, FileCause, &[u8]); 8] = [
+    let cases: [(&[u8], u32, FileCause, &[u8]); 11] = [
         (
             b"sizes.txt",
             5,
@@ -20,6 +20,24 @@ fn the_cause_of_a_refused_file_is_told_by_its_name(rt: HostRuntime) {
             2,
             FileCause::Sizes(SizesCause::Kvn(KvnCause::NoLineForm)),
             b"conj: sizes.txt: line 2: Sizes Kvn NoLineForm\n",
+        ),
+        (
+            b"fleet.txt",
+            1,
+            FileCause::Primaries(PrimariesCause::Kvn(KvnCause::NoLineForm)),
+            b"conj: fleet.txt: line 1: Primaries Kvn NoLineForm\n",
+        ),
+        (
+            b"fleet.txt",
+            3,
+            FileCause::Primaries(PrimariesCause::Unknown),
+            b"conj: fleet.txt: line 3: Primaries Unknown\n",
+        ),
+        (
+            b"fleet.txt",
+            0,
+            FileCause::NoPrimaries,
+            b"conj: fleet.txt: line 0: NoPrimaries\n",
         ),
         (
             b"a.oem",

@@ -1,8 +1,9 @@
 //! Command lines that are refused, and why, beside those that are just taken.
 use crate::lines::{Case, fault_of, first_wrong, name_of};
 use crate::usage_faults::{
-    BAD_CELLS, BAD_CERT, BAD_FROM, BAD_MINUTES, BAD_OBJECTS, BAD_ORIGINATOR, BAD_REPORT, BAD_SEED,
-    BAD_SIZES, BAD_SUFFIX, BAD_THRESHOLD, BAD_TO, BAD_VERSION, BAD_WITHIN, BAD_WORKERS, WORDS,
+    BAD_CELLS, BAD_CERT, BAD_FROM, BAD_MINUTES, BAD_OBJECTS, BAD_ORIGINATOR, BAD_PRIMARIES,
+    BAD_REPORT, BAD_SEED, BAD_SIZES, BAD_SUFFIX, BAD_THRESHOLD, BAD_TO, BAD_VERSION, BAD_WITHIN,
+    BAD_WORKERS, WORDS,
 };
 use std::panic::Expect;
 
@@ -127,6 +128,32 @@ const SIZES: [Case; 5] = [
 fn files_of_sizes(rt: HostRuntime) {
     assert_eq!(rt;
         first_wrong(rt.alloc(), SIZES.as_slice()).expect(&rt, "no fault"),
+        None
+    );
+}
+
+const PRIMARIES: [Case; 9] = [
+    ("screen . --primaries fleet.txt", None),
+    ("check . --primaries=fleet.txt --report screen.report", None),
+    ("rewrite . --primaries fleet.txt --brief", None),
+    ("thin . --primaries fleet.txt", WORDS),
+    ("selfrun --primaries fleet.txt", WORDS),
+    (
+        "screen . --primaries fleet.txt --primaries fleet.txt",
+        WORDS,
+    ),
+    ("screen . --primaries a/b", BAD_PRIMARIES),
+    ("screen . --sizes a/b --primaries a/b", BAD_SIZES),
+    (
+        "screen . --primaries fleet.txt --cert-version 2",
+        BAD_VERSION,
+    ),
+];
+
+#[test]
+fn files_of_primaries(rt: HostRuntime) {
+    assert_eq!(rt;
+        first_wrong(rt.alloc(), PRIMARIES.as_slice()).expect(&rt, "no fault"),
         None
     );
 }

@@ -19,6 +19,10 @@ pub const BAD_CELLS: Option<UsageFault> = Some(UsageFault::Value { option: Opt::
 
 pub const BAD_SIZES: Option<UsageFault> = Some(UsageFault::Value { option: Opt::Sizes });
 
+pub const BAD_PRIMARIES: Option<UsageFault> = Some(UsageFault::Value {
+    option: Opt::Primaries,
+});
+
 pub const BAD_WORKERS: Option<UsageFault> = Some(UsageFault::Value {
     option: Opt::Workers,
 });

@@ -14,6 +14,8 @@ mod made_tracks;
 #[cfg(test)]
 mod metadata;
 #[cfg(test)]
+mod primaries;
+#[cfg(test)]
 mod printing;
 #[cfg(test)]
 mod rows;

@@ -5,6 +5,7 @@ use Rattle.cj_case.specs.declared.kind.Kind.TheVariants as kind
 use Rattle.cj_case.specs.declared.encounter.Mark.{Mark}
 use Rattle.cj_case.specs.declared.encounter.Mark.TheVariants as mark
 use Rattle.cj_case.specs.Leaves.{PlainLeaf}
+use Rattle.cj_case.specs.Primaries.{is_named}
 use Rattle.cj_coverage.specs.Coverage.{covered_spans}
 use Rattle.cj_epoch.specs.Written.{epoch_of}
 use Rattle.cj_hermite.specs.CommonRuns.{Run}
@@ -23,6 +24,11 @@ numbered given n (x ∷ xs) = given n x ++ numbered given (n + 1) xs
 abbrev pub size_line : Option ℕ → List ℕ
 size_line None = []
 size_line (Some size) = line_of_words (codes "SIZE" ∷ decimal size ∷ [])
+
+-- that an object is named as a primary
+abbrev pub primary_line : Bool → List ℕ
+primary_line true = line_of_words (codes "PRIMARY" ∷ [])
+primary_line false = []
 
 -- the object with this number
 abbrev pub name_lines : ℕ → PlainTrack → List ℕ
@@ -49,9 +55,13 @@ coverage_lines with_coverage first last object = if with_coverage then covered_l
 abbrev pub sized_lines : List ℕ → ℕ → PlainTrack → List ℕ
 sized_lines sizes n object = name_lines n object ++ size_line (slice_get sizes (n - 1))
 
+-- the same, and whether it is one of these primaries
+abbrev pub marked_lines : List ℕ → Option (List Bool) → ℕ → PlainTrack → List ℕ
+marked_lines sizes primaries n object = sized_lines sizes n object ++ primary_line (is_named primaries (n - 1))
+
 -- all that is told of it
-abbrev pub object_lines : List ℕ → Bool → ℕ → ℕ → ℕ → PlainTrack → List ℕ
-object_lines sizes with_coverage first last n object = sized_lines sizes n object ++ coverage_lines with_coverage first last object
+abbrev pub object_lines : List ℕ → Option (List Bool) → Bool → ℕ → ℕ → ℕ → PlainTrack → List ℕ
+object_lines sizes primaries with_coverage first last n object = marked_lines sizes primaries n object ++ coverage_lines with_coverage first last object
 
 abbrev pub mark_word : Mark → List ℕ
 mark_word mark.Near = codes "NEAR"
@@ -91,24 +101,24 @@ encounter_lines approach has_message n encounter =
 abbrev pub told : Bool → List ℕ → List ℕ
 told with_sizes sizes = if with_sizes then sizes else []
 
--- a report under a title: its window from the first tick to the last, its threshold in nm, its objects, the sizes that are told, whether it is told
--- which ticks each object covers, its encounters with the closest approaches that they have by the one function and the messages that they have
+-- a report under a title: its window from the first tick to the last, its threshold in nm, its objects, the sizes that are told, the primaries that
+-- are named, whether it is told which ticks each object covers, its encounters with the closest approaches that they have by the one function and the messages that they have
 -- by the other
-abbrev pub report_titled : List ℕ → ℕ → ℕ → ℕ → List PlainTrack → List ℕ → Bool → (List PlainLeaf → Option PlainClosest) → (List PlainLeaf → Bool) → List (List PlainLeaf) → List ℕ
-report_titled title first last threshold objects sizes with_coverage approach has_message encounters =
+abbrev pub report_titled : List ℕ → ℕ → ℕ → ℕ → List PlainTrack → List ℕ → Option (List Bool) → Bool → (List PlainLeaf → Option PlainClosest) → (List PlainLeaf → Bool) → List (List PlainLeaf) → List ℕ
+report_titled title first last threshold objects sizes primaries with_coverage approach has_message encounters =
     line_of_words (title ∷ codes "1" ∷ [])
     ++ line_of_words (codes "WINDOW" ∷ epoch_of first ∷ epoch_of last ∷ [])
     ++ line_of_words (codes "THRESHOLD" ∷ decimal threshold ∷ [])
-    ++ numbered (object_lines sizes with_coverage first last) 1 objects
+    ++ numbered (object_lines sizes primaries with_coverage first last) 1 objects
     ++ numbered (encounter_lines approach has_message) 1 encounters
     ++ line_of_words (codes "END" ∷ [])
 
 -- the report
-abbrev pub report_of : ℕ → ℕ → ℕ → List PlainTrack → List ℕ → Bool → (List PlainLeaf → Option PlainClosest) → (List PlainLeaf → Bool) → List (List PlainLeaf) → List ℕ
-report_of first last threshold objects sizes with_coverage approach has_message encounters =
-    report_titled (codes "CONJ-REPORT") first last threshold objects sizes with_coverage approach has_message encounters
+abbrev pub report_of : ℕ → ℕ → ℕ → List PlainTrack → List ℕ → Option (List Bool) → Bool → (List PlainLeaf → Option PlainClosest) → (List PlainLeaf → Bool) → List (List PlainLeaf) → List ℕ
+report_of first last threshold objects sizes primaries with_coverage approach has_message encounters =
+    report_titled (codes "CONJ-REPORT") first last threshold objects sizes primaries with_coverage approach has_message encounters
 
 -- the report of those encounters alone whose pairs are not unchanged
-abbrev pub changed_of : ℕ → ℕ → ℕ → List PlainTrack → List ℕ → Bool → (List PlainLeaf → Option PlainClosest) → (List PlainLeaf → Bool) → List (List PlainLeaf) → List ℕ
-changed_of first last threshold objects sizes with_coverage approach has_message encounters =
-    report_titled (codes "CONJ-CHANGED") first last threshold objects sizes with_coverage approach has_message encounters
+abbrev pub changed_of : ℕ → ℕ → ℕ → List PlainTrack → List ℕ → Option (List Bool) → Bool → (List PlainLeaf → Option PlainClosest) → (List PlainLeaf → Bool) → List (List PlainLeaf) → List ℕ
+changed_of first last threshold objects sizes primaries with_coverage approach has_message encounters =
+    report_titled (codes "CONJ-CHANGED") first last threshold objects sizes primaries with_coverage approach has_message encounters

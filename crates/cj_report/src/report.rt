@@ -32,7 +32,7 @@ pub fn report_text(
     ensures { let case = plain_problem problem.now in IfOk result (λ text. (approach : List PlainLeaf → Option PlainClosest) (has_message : List PlainLeaf → Bool)
         → map some_closest approaches.now ≡ map approach (groups_in (plain_leaves leaves.now) encounters.now)
         → messages.now ≡ map has_message (groups_in (plain_leaves leaves.now) encounters.now)
-        → text.items ≡ report_of case.first case.last case.threshold case.tracks (told tells.sizes case.sizes)
+        → text.items ≡ report_of case.first case.last case.threshold case.tracks (told tells.sizes case.sizes) case.primaries
         tells.coverage approach has_message (groups_in (plain_leaves leaves.now) encounters.now)) }
 {
     titled_text(
@@ -64,7 +64,7 @@ pub fn changed_text(
     ensures { let case = plain_problem problem.now in IfOk result (λ text. (approach : List PlainLeaf → Option PlainClosest) (has_message : List PlainLeaf → Bool)
         → map some_closest approaches.now ≡ map approach (groups_in (plain_leaves leaves.now) encounters.now)
         → messages.now ≡ map has_message (groups_in (plain_leaves leaves.now) encounters.now)
-        → text.items ≡ changed_of case.first case.last case.threshold case.tracks (told tells.sizes case.sizes)
+        → text.items ≡ changed_of case.first case.last case.threshold case.tracks (told tells.sizes case.sizes) case.primaries
         tells.coverage approach has_message (groups_in (plain_leaves leaves.now) encounters.now)) }
 {
     titled_text(
@@ -97,7 +97,7 @@ fn titled_text(
     ensures { let case = plain_problem problem.now in IfOk result (λ text. (approach : List PlainLeaf → Option PlainClosest) (has_message : List PlainLeaf → Bool)
         → map some_closest approaches.now ≡ map approach (groups_in (plain_leaves leaves.now) encounters.now)
         → messages.now ≡ map has_message (groups_in (plain_leaves leaves.now) encounters.now)
-        → text.items ≡ report_titled title.now case.first case.last case.threshold case.tracks (told tells.sizes case.sizes)
+        → text.items ≡ report_titled title.now case.first case.last case.threshold case.tracks (told tells.sizes case.sizes) case.primaries
         tells.coverage approach has_message (groups_in (plain_leaves leaves.now) encounters.now)) }
 {
     let mut text = Vec::with_capacity(alloc, usual_length(problem, encounters))?;
@@ -121,6 +121,7 @@ fn titled_text(
         &mut text,
         problem.tracks.as_slice(),
         sizes,
+        &problem.primaries,
         tells.coverage,
         problem.window,
     )?;

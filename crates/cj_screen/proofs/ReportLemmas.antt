@@ -22,17 +22,15 @@ use Rattle.cj_outputs.specs.declared.findings.Findings.{Findings}
 use Rattle.cj_outputs.specs.declared.wanted.Wanted.{Wanted}
 use Rattle.cj_status.specs.declared.status.Status.{Status}
 use Rattle.cj_status.specs.declared.status.Status.TheVariants as status
-use Rattle.cj_status.specs.Steps.{◌>>=◌, ComesBetween, Stops}
+use Rattle.cj_status.specs.Steps.{ComesBetween, Stops}
 use Rattle.cj_screen.specs.Errors.{refined_status}
 use Rattle.cj_outputs.specs.Again.{IsAcceptedLater}
 use Rattle.cj_outputs.specs.Either.{IsAcceptedFor, any_written, is_brief}
 use Rattle.cj_outputs.specs.Messages.{PlainOrigin}
 use Rattle.cj_inputs.specs.Coverings.{case_covered}
-use Rattle.cj_outputs.specs.Outcome.{cert_bytes, few_told, outputs_limited, outputs_with, outputs_within, told_in, within_cells, within_told}
+use Rattle.cj_outputs.specs.Outcome.{cert_bytes, few_told, outputs_with, told_in, within_cells, within_told}
 use Rattle.cj_outputs.specs.Findings.{AreFound, case_in, cert_in, lines_of, outputs_in, report_in}
-use Rattle.cj_outputs.proofs.AcceptingLemmas.{stops_then}
 use Rattle.cj_screen.specs.Headline.{Reports, ReportsOf}
-use Rattle.cj_report.specs.declared.tells.Tells.{Tells}
 use Rattle.cj_screen.proofs.CoverLemmas.{whole_window}
 
 -- what ends the search for leaves is no read
@@ -57,22 +55,6 @@ pub between_refined : (limit : ℕ) (e : RefineError) → ComesBetween (refined_
 between_refined limit refine.Memory = tt
 between_refined limit refine.TooMany = tt
 
--- the outputs of a case, of its leaves
-pub outputs_of_leaves : (limit : ℕ) (tells : Tells) (format : CertFormat) (origin : PlainOrigin) (behind : List ℕ) (case : PlainProblem) (leaves : List PlainLeaf)
-    → within_cells limit (list_candidates case) ≡ Ok leaves
-    → outputs_within limit tells format origin behind case ≡ Ok (outputs_with tells format origin behind case leaves)
-unfolding outputs_within
-outputs_of_leaves limit tells format origin behind case leaves same =
-    ap (λ (r : Result (List PlainLeaf) Status). r >>= λ ss. Ok (outputs_with tells format origin behind case ss)) same
-
--- what ends the search for the leaves ends that for the outputs
-pub outputs_stop : (limit : ℕ) (tells : Tells) (format : CertFormat) (origin : PlainOrigin) (behind : List ℕ) (case : PlainProblem) (s : Status)
-    → Stops ⊥ s (within_cells limit (list_candidates case))
-    → Stops ⊥ s (outputs_within limit tells format origin behind case)
-unfolding outputs_within
-outputs_stop limit tells format origin behind case s =
-    stops_then ⊥ s (within_cells limit (list_candidates case)) (λ ss. Ok (outputs_with tells format origin behind case ss))
-
 -- the outputs of what is found in a case
 pub same_outputs : (wanted : Wanted) (origin : PlainOrigin) (behind : List ℕ) (case : PlainProblem) (found : Findings) → case_in found ≡ case → found.wanted ≡ wanted → lines_of found.behind ≡ behind
     → AreFound found → outputs_with wanted.tells wanted.format origin behind case (list_candidates case) ≡ outputs_in origin found
@@ -81,14 +63,6 @@ same_outputs wanted origin behind case found same as_wanted lines are =
     ∙ ap (λ (w : Wanted). outputs_with w.tells w.format origin (lines_of found.behind) case (list_candidates case)) as_wanted
     ∙ ap (λ (b : List ℕ). outputs_with wanted.tells wanted.format origin b case (list_candidates case)) lines)
 
--- what is found is what is due
-pub outputs_told : (wanted : Wanted) (origin : PlainOrigin) (behind : List ℕ) (case : PlainProblem) (found : Findings) → within_cells wanted.leaves (list_candidates case) ≡ Ok (list_candidates case)
-    → case_in found ≡ case → found.wanted ≡ wanted → lines_of found.behind ≡ behind → AreFound found
-    → outputs_within wanted.leaves wanted.tells wanted.format origin behind case ≡ Ok (outputs_in origin found)
-outputs_told wanted origin behind case found within same as_wanted lines are =
-    outputs_of_leaves wanted.leaves wanted.tells wanted.format origin behind case (list_candidates case) within
-    ∙ ap (λ (outputs : List FileBytes). Ok outputs) (same_outputs wanted origin behind case found same as_wanted lines are)
-
 -- ---- the leaves that are told
 
 -- as many are told as their list is long
@@ -96,30 +70,6 @@ pub told_counted : (most : ℕ) (format : CertFormat) (case : PlainProblem) (ite
     → few_told most (length told) ≡ within_told most format case
 told_counted most format case items told lent are =
     ap (few_told most) (ap (λ (ls : List Leaf). length ls) lent ∙ sym (length-map items plain_leaf) ∙ ap (λ (ss : List PlainLeaf). length ss) are)
-
--- what is found is what is due where few enough are told
-pub limited_told : (wanted : Wanted) (origin : PlainOrigin) (behind : List ℕ) (case : PlainProblem) (found : Findings) → within_cells wanted.leaves (list_candidates case) ≡ Ok (list_candidates case)
-    → within_told wanted.told wanted.format case ≡ Ok tt → case_in found ≡ case → found.wanted ≡ wanted → lines_of found.behind ≡ behind → AreFound found
-    → outputs_limited wanted.leaves wanted.told wanted.tells wanted.format origin behind case ≡ Ok (outputs_in origin found)
-unfolding outputs_limited
-limited_told wanted origin behind case found within few same as_wanted lines are =
-    rw (outputs_told wanted origin behind case found within same as_wanted lines are, few) refl
-
--- what ends the search for the leaves ends that for the outputs
-pub limited_stop : (wanted : Wanted) (origin : PlainOrigin) (behind : List ℕ) (case : PlainProblem) (s : Status) → Stops ⊥ s (within_cells wanted.leaves (list_candidates case))
-    → Stops ⊥ s (outputs_limited wanted.leaves wanted.told wanted.tells wanted.format origin behind case)
-unfolding outputs_limited
-limited_stop wanted origin behind case s stops =
-    stops_then ⊥ s (outputs_within wanted.leaves wanted.tells wanted.format origin behind case) (λ outputs. within_told wanted.told wanted.format case >>= λ done. Ok outputs)
-    (outputs_stop wanted.leaves wanted.tells wanted.format origin behind case s stops)
-
--- and so do too many that are told
-pub told_stop : (wanted : Wanted) (origin : PlainOrigin) (behind : List ℕ) (case : PlainProblem) (s : Status) → within_cells wanted.leaves (list_candidates case) ≡ Ok (list_candidates case)
-    → Stops ⊥ s (within_told wanted.told wanted.format case) → Stops ⊥ s (outputs_limited wanted.leaves wanted.told wanted.tells wanted.format origin behind case)
-unfolding outputs_limited
-told_stop wanted origin behind case s within stops =
-    rw (outputs_of_leaves wanted.leaves wanted.tells wanted.format origin behind case (list_candidates case) within)
-    (stops_then ⊥ s (within_told wanted.told wanted.format case) (λ done. Ok (outputs_with wanted.tells wanted.format origin behind case (list_candidates case))) stops)
 
 -- the report of findings is that of the case that was asked
 pub reports : (files : List FileBytes) (screening : PlainScreening) (case : PlainProblem) → case_covered files screening.settings ≡ Ok case → (r : Result Findings Status)

@@ -1,6 +1,7 @@
 -- Screening again: which causes come of it, what it puts, and what stays so of unchanged pairs.
 use Rattle.std.proofs.Common.{◌≡◌, ℕ, ◌-◌, ◌≤◌, Bool, true, false, not, cond, List, [], ◌∷◌, ◌++◌, filter, length, Option, Some, None, Result, Ok, Err, refl, sym, ap, subst, ◌∙◌, arith}
-use Rattle.std.specs.Prelude.{IfErr, IsSomeAnd, nat_le, slice_get}
+use Rattle.std.specs.Prelude.{◌||◌, IfErr, IsSomeAnd, nat_le, slice_get}
+use Rattle.std.specs.Cmp.{second_so}
 use Rattle.std.proofs.lemmas.List.{length-map}
 use Rattle.cj_io.specs.declared.file.FileBytes.{FileBytes}
 use Rattle.cj_io.specs.Files.{bytes_of, names_of}
@@ -8,11 +9,13 @@ use Rattle.cj_formats.specs.declared.cert_format.CertFormat.{CertFormat}
 use Rattle.cj_track.specs.PlainTracks.{PlainTrack}
 use Rattle.cj_track.specs.Tracks.{plain_track}
 use Rattle.cj_oem.specs.Reading.{Fault, reading}
+use Rattle.cj_sizes.specs.Primaries.{Fault as PrimariesFault, reading as primaries_said}
 use Rattle.cj_sizes.specs.Reading.{Fault as SizesFault, reading as sizes_said}
 use Rattle.cj_sizes.specs.Sizes.{Size}
 use Rattle.cj_case.specs.declared.problem.Problem.{Problem}
 use Rattle.cj_case.specs.Pairs.{pairs_of}
 use Rattle.cj_case.specs.PlainProblems.{PlainProblem, threshold_of}
+use Rattle.cj_case.specs.Primaries.{concerns, has_primary}
 use Rattle.cj_case.specs.Problems.{plain_problem}
 use Rattle.cj_case.specs.Leaves.{PlainLeaf}
 use Rattle.cj_case.specs.Slots.{slot_of}
@@ -22,6 +25,7 @@ use Rattle.cj_hermite.specs.Interpolant.{Curve}
 use Rattle.cj_hermite.specs.ObjectsAtTicks.{OfObjectsAt}
 use Rattle.cj_hermite.specs.Pieces.{OfBothAt}
 use Rattle.cj_bezier.specs.Candidates.{is_candidate}
+use Rattle.cj_bezier.proofs.CandidateLemmas.{candidate_looked_at}
 use Rattle.cj_bezier.proofs.TrueLeafLemmas.{tells_of as leaf_tells, outside_of}
 use Rattle.cj_case.specs.Cells.{PlainCell}
 use Rattle.cj_hermite.specs.Roots.{roots_of}
@@ -47,6 +51,9 @@ use Rattle.cj_status.specs.declared.status.FileCause.TheVariants.{MixedFrames}
 use Rattle.cj_status.specs.Steps.{◌>>=◌, ComesBefore, Stops}
 use Rattle.cj_inputs.specs.declared.input_files.Entry.{Entry}
 use Rattle.cj_inputs.specs.Cases.{object_slots, within_limits, within_objects, within_slots, within_window}
+use Rattle.cj_inputs.specs.InputFiles.{apart_of}
+use Rattle.cj_inputs.specs.ObjectAttributes.{attributes_asked}
+use Rattle.cj_inputs.specs.ObjectPrimaries.{ids_of, primaries_asked, primaries_at, primaries_of_file, refused_primaries}
 use Rattle.cj_inputs.specs.ObjectSizes.{first_named, refused_sizes, sizes_asked, sizes_at, sizes_of_file}
 use Rattle.cj_inputs.specs.Readings.{checked_after, has_frame_of, nodes_in, reading_after, reading_of, readings_after, refused_of, same_frame_as, within_bytes, within_nodes}
 use Rattle.cj_inputs.specs.Trims.{left_said, trims_of}
@@ -131,9 +138,9 @@ tracks_read : (files : List FileBytes) (settings : PlainSettings) (update : List
 unfolding tracks_updated read_as
 tracks_read files settings update =
     let names = names_of files in
-    let updates = updates_of settings.suffix update settings.sizes names in
-    then (within_objects settings.limits.objects (base_of settings.suffix update settings.sizes names)) (λ entries. read_as files settings update entries updates)
-    (few_objects settings.limits.objects (base_of settings.suffix update settings.sizes names))
+    let updates = updates_of settings.suffix update (apart_of settings) names in
+    then (within_objects settings.limits.objects (base_of settings.suffix update (apart_of settings) names)) (λ entries. read_as files settings update entries updates)
+    (few_objects settings.limits.objects (base_of settings.suffix update (apart_of settings) names))
     (λ entries. then (readings_after settings files [] entries)
     (λ base. updates_after settings update files base updates >>= λ all. updated_with files settings update entries updates base)
     (all_read settings files [] entries)
@@ -160,16 +167,42 @@ unfolding sizes_asked
 sizes_read files None = tt
 sizes_read files (Some name) = sizes_in files name (first_named name (names_of files))
 
+primaries_refused : (name : List ℕ) (r : Result (List (List ℕ)) PrimariesFault) → IfErr (refused_primaries name r) EndsRescreening
+primaries_refused name (Ok []) = tt
+primaries_refused name (Ok (id ∷ ids)) = tt
+primaries_refused name (Err fault) = tt
+
+primaries_in : (known : List (List ℕ)) (files : List FileBytes) (name : List ℕ) (number : Option ℕ) → IfErr (primaries_at known files name number) EndsRescreening
+unfolding primaries_of_file
+primaries_in known files name None = tt
+primaries_in known files name (Some number) =
+    then (within_bytes name (bytes_of files number)) (λ whole. refused_primaries name (primaries_said known whole))
+    (limited (nat_le (length (bytes_of files number)) 67_108_864) (bytes_of files number) (limit.FileBytes name)) (λ whole. primaries_refused name (primaries_said known whole))
+
+primaries_read : (known : List (List ℕ)) (files : List FileBytes) (name : Option (List ℕ)) → IfErr (primaries_asked known files name) EndsRescreening
+unfolding primaries_asked
+primaries_read known files None = tt
+primaries_read known files (Some name) =
+    then (primaries_at known files name (first_named name (names_of files))) (λ ids. Ok (Some ids)) (primaries_in known files name (first_named name (names_of files))) (λ ids. tt)
+
+attributes_read : (es others : List PlainTrack) (files : List FileBytes) (settings : PlainSettings) → IfErr (attributes_asked es others files settings) EndsRescreening
+unfolding attributes_asked
+attributes_read es others files settings =
+    let known = ids_of es ++ ids_of others in
+    then (sizes_asked files settings.sizes) (λ sizes. primaries_asked known files settings.primaries >>= λ primaries. Ok (record { sizes = sizes; primaries = primaries })) (sizes_read files settings.sizes)
+    (λ sizes. then (primaries_asked known files settings.primaries) (λ primaries. Ok (record { sizes = sizes; primaries = primaries })) (primaries_read known files settings.primaries) (λ primaries. tt))
+
 -- the cases of a screening again are there, or a file is refused, or a limit is exceeded
 pub never_asked : (files : List FileBytes) (asked : PlainRescreening) → IfErr (cases_asked files asked) EndsRescreening
 unfolding cases_asked
 never_asked files asked =
     let settings = asked.screening.settings in
     let most = settings.limits.object_slots in
-    then (tracks_updated files settings asked.update) (λ tracks. sizes_asked files settings.sizes >>= λ sizes. both_within most (cases_of_run settings tracks sizes))
+    then (tracks_updated files settings asked.update) (λ tracks. attributes_asked tracks.base tracks.new files settings >>= λ said. both_within most (cases_of_run settings tracks said))
     (tracks_read files settings asked.update)
-    (λ tracks. then (sizes_asked files settings.sizes) (λ sizes. both_within most (cases_of_run settings tracks sizes)) (sizes_read files settings.sizes)
-    (λ sizes. let cases = cases_of_run settings tracks sizes in
+    (λ tracks. then (attributes_asked tracks.base tracks.new files settings) (λ said. both_within most (cases_of_run settings tracks said))
+    (attributes_read tracks.base tracks.new files settings)
+    (λ said. let cases = cases_of_run settings tracks said in
     let case = larger cases in
     then (within_limits most case) (λ large. Ok cases)
     (then (within_window case) (within_slots most) (limited (nat_le (case.last - case.first) 1_209_600_000_000) case (limit.Window (case.last - case.first)))
@@ -324,6 +357,10 @@ anew_is : (old new : PlainProblem) (a b slot : ℕ) → is_unchanged old new (a,
 unfolding is_candidate_anew
 anew_is old new a b slot other is = rw (other, is) refl
 
+anew_looked_at : (old new : PlainProblem) (a b slot : ℕ) → is_candidate_anew old new a b slot ≡ true → concerns new (a, b) ≡ true
+unfolding is_candidate_anew
+anew_looked_at old new a b slot is = candidate_looked_at new a b slot (second_so (not (is_unchanged old new (a, b))) (is_candidate new a b slot) is)
+
 -- these leaves are theirs
 pub changed_splits : (old new : PlainProblem) (ss : List PlainLeaf) → ss ≡ list_anew old new → HoldsChangedTicks old new → HaveExactSpans ss
     → SplitsChangedTicks old new (encounters_of (list_anew old new))
@@ -331,7 +368,7 @@ unfolding list_anew
 changed_splits old new ss same ticks spans =
     let all = list_of (is_candidate_anew old new) new in
     let lists = ticks.lists in
-    let true_all = all_true new all lists.sound in
+    let true_all = all_true new (is_candidate_anew old new) (anew_looked_at old new) lists.sound in
     let exact : HaveExactSpans all = subst HaveExactSpans same spans in
     record {
       near = λ a b m here.
@@ -384,20 +421,24 @@ moved old new p q a b m P first second here =
     (subst (λ (y : Option PlainTrack). IsSomeAnd (slice_get old.tracks p) (λ e. IsSomeAnd y (λ f. OfBothAt e f m P))) (sym second) here)
 
 pub still_so : (old new : PlainProblem) → new.first ≡ old.first → new.last ≡ old.last → new.threshold ≡ old.threshold → StillSo old new
+unfolding has_primary
 still_so old new first last threshold p q a b before ordered one other =
     let o = object_is old new p a one in
     let t = object_is old new q b other in
+    let looked : concerns new (a, b) ≡ concerns old (p, q) = (λ i. o.2 i || t.2 i) in
     let same : threshold_of old p q ≡ threshold_of new a b = omega (arith, threshold, o.1, t.1) in
     record {
       common = λ m. (
         λ c. record {
           ordered = ordered;
+          concerned = looked ∙ c.concerned;
           after = omega (arith, first, c.after);
           before = omega (arith, last, c.before);
           nodes = moved old new p q a b m (λ c d. Unit {0}) o.0 t.0 c.nodes;
         },
         λ c. record {
           ordered = before;
+          concerned = sym looked ∙ c.concerned;
           after = omega (arith, first, c.after);
           before = omega (arith, last, c.before);
           nodes = moved new old a b p q m (λ c d. Unit {0}) (sym o.0) (sym t.0) c.nodes;

@@ -29,7 +29,9 @@ use Rattle.cj_status.specs.declared.status.LimitFault.TheVariants as limit
 use Rattle.cj_status.specs.Steps.{◌>>=◌, Gives, IsLimit, Stops}
 use Rattle.cj_inputs.specs.declared.input_files.Entry.{Entry}
 use Rattle.cj_inputs.specs.Cases.{case_asked, case_of_run, object_slots, within_limits, within_objects, within_slots, within_window}
-use Rattle.cj_inputs.specs.InputFiles.{inputs_of}
+use Rattle.cj_inputs.specs.InputFiles.{apart_of, inputs_of}
+use Rattle.cj_inputs.specs.ObjectAttributes.{PlainAttributes, attributes_asked}
+use Rattle.cj_inputs.specs.ObjectPrimaries.{primaries_asked}
 use Rattle.cj_inputs.specs.ObjectSizes.{sizes_asked}
 use Rattle.cj_inputs.specs.Readings.{checked_after, has_frame_of, nodes_in, reading_after, reading_of, readings_after, readings_of, refused_of, within_nodes}
 use Rattle.cj_inputs.proofs.InputFileLemmas.{Stands, inputs_stand}
@@ -165,23 +167,24 @@ each_read seed objects minutes some few (file ∷ files) n places =
 
 -- the case of a made-up catalogue is there, or a limit is exceeded
 pub selfrun_limits : (selfrun : PlainSelfrun) → 1 ≤ selfrun.recipe.minutes → selfrun.recipe.minutes ≤ 1440 → IfErr (case_of_selfrun selfrun) IsLimit
-unfolding case_of_selfrun case_asked sizes_asked
+unfolding case_of_selfrun case_asked attributes_asked sizes_asked primaries_asked
 selfrun_limits selfrun some few =
     let seed = selfrun.recipe.seed in
     let objects = selfrun.recipe.objects in
     let minutes = selfrun.recipe.minutes in
     let files = catalogue_of seed objects minutes in
     let settings = settings_of_selfrun selfrun in
-    let entries = inputs_of settings.suffix None (names_of files) in
+    let nothing_said : PlainAttributes = record { sizes = []; primaries = None } in
+    let entries = inputs_of settings.suffix (apart_of settings) (names_of files) in
     let read = each_read seed objects minutes some few files 1 (λ i d below. file_at seed objects minutes i d (omega (arith, file_count seed objects minutes))) in
-    then (within_objects settings.limits.objects entries) (λ es. readings_of settings files es >>= λ tracks. within_limits settings.limits.object_slots (case_of_run settings tracks []))
+    then (within_objects settings.limits.objects entries) (λ es. readings_of settings files es >>= λ tracks. within_limits settings.limits.object_slots (case_of_run settings tracks nothing_said))
     (limited (nat_le (length entries) settings.limits.objects) entries (limit.Objects (length entries)))
     (λ es same.
     let is : entries ≡ es = kept (nat_le (length entries) settings.limits.objects) entries es (limit.Objects (length entries)) same in
-    let stand = subst (AllByRecursion (Stands (names_of files))) is (inputs_stand settings.suffix None (names_of files)) in
-    then (readings_of settings files es) (λ tracks. within_limits settings.limits.object_slots (case_of_run settings tracks []))
+    let stand = subst (AllByRecursion (Stands (names_of files))) is (inputs_stand settings.suffix (apart_of settings) (names_of files)) in
+    then (readings_of settings files es) (λ tracks. within_limits settings.limits.object_slots (case_of_run settings tracks nothing_said))
     (readings_limit selfrun frames.Eme2000 files [] es tt (reads_all frames.Eme2000 files es read stand))
-    (λ tracks got. window_limits settings.limits.object_slots (case_of_run settings tracks [])))
+    (λ tracks got. window_limits settings.limits.object_slots (case_of_run settings tracks nothing_said)))
 
 -- what is due or a limit comes, or memory ran out
 pub comes_of_selfrun : {X A : Type 0} (read : Type 0) (view : X → A) (r : Result X Status) (due : Result A Status) → ¬ read → Gives read view r due → IfErr due IsLimit → IfErr r ComesOfSelfrun

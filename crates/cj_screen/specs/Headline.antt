@@ -52,7 +52,7 @@ CoverAll case = All (λ e. HasAll e case.first case.last) case.tracks
 -- second. The covered spans that may be told of an object hold the ticks of the window at which it has a state, and no others. The second bytes are
 -- an accepted certificate of the case.
 pub record ReportsOf (settings : PlainSettings) (case : PlainProblem) (bytes certificate : List ℕ) : Type 0 where
-  pub text : bytes ≡ report_of case.first case.last case.threshold case.tracks (told (tells_of settings).sizes case.sizes) (tells_of settings).coverage
+  pub text : bytes ≡ report_of case.first case.last case.threshold case.tracks (told (tells_of settings).sizes case.sizes) case.primaries (tells_of settings).coverage
       (closest_of case) (has_message case) (encounters_in case)
   pub split : SplitsTicks case (encounters_in case)
   pub nearest : All (HasNearest case) (encounters_in case)

@@ -91,6 +91,7 @@ fn settings_of(selfrun: &Selfrun) -> Settings<'static>
         suffix: b".oem",
         as_hermite3: false,
         sizes: None,
+        primaries: None,
         coverage: false,
         must_cover: false,
         large: false,

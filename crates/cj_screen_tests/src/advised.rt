@@ -1,5 +1,6 @@
 //! What a cause shows as refused is refused with it, and what it shows as taken is taken: certificates, reports and command lines.
 use crate::certificates::RESTING;
+use crate::primaries::THREE;
 use crate::runs::{file, run, told};
 use crate::scenes::{COVERED, CROSSING, Scene, files_of};
 use cj_advice::{Advice, Cause, EVERY, FileReason, LimitCause, advice_on, cause_word};
@@ -36,6 +37,13 @@ const BESIDE_A_REPORT: Checked = Checked {
     check: "check . --report screen.report",
 };
 
+/// Three objects at rest, the first of which is a primary.
+const OF_A_FLEET: Checked = Checked {
+    scene: THREE,
+    screen: "screen . --primaries fleet.txt",
+    check: "check . --primaries fleet.txt",
+};
+
 /// The one tick at which two crossing objects are 1 km apart, within the threshold.
 const AT_THE_CROSSING: Checked = Checked {
     scene: CROSSING,
@@ -58,6 +66,7 @@ fn check_of(cause: CertificateCause) -> Option<Checked> {
         CertificateCause::Report => Some(BESIDE_A_REPORT),
         CertificateCause::Refused(cause) => match cause {
             CheckCause::SizeOf => Some(IN_VERSION_2),
+            CheckCause::PrimaryOf => Some(OF_A_FLEET),
             CheckCause::NotNear => Some(BEFORE_THE_CROSSING),
             CheckCause::NotBand => Some(AT_THE_CROSSING),
             CheckCause::Header
@@ -159,10 +168,11 @@ fn certified<R: Threads + Wait + Sync>(
     Ok(files)
 }
 
-/// The crossing objects with a file of sizes.
+/// The crossing objects with a file of sizes and one of primaries.
 fn sized(alloc: Global) -> Result<Vec<FileBytes>, AllocError> {
     let mut files = files_of(alloc, CROSSING)?;
     files.push(file(alloc, b"sizes.txt", b"2025-001A 1.5\n")?)?;
+    files.push(file(alloc, b"fleet.txt", b"2025-001A\n")?)?;
     Ok(files)
 }
 
@@ -192,10 +202,14 @@ fn command_lines_that_are_shown_are_refused_with_the_cause(rt: HostRuntime) {
         let line = told_by(&rt, alloc, right, files).expect(&rt, "no fault");
         assert_eq!(rt; line.as_slice(), b"ACCEPTED\n".as_slice(), "{cause:?}");
     }
-    let lines: [(Cause, &[u8]); 4] = [
+    let lines: [(Cause, &[u8]); 5] = [
         (
             Cause::File(FileReason::NoSizes),
             b"conj: radii.txt: line 0: NoSizes\n",
+        ),
+        (
+            Cause::File(FileReason::NoPrimaries),
+            b"conj: ours.txt: line 0: NoPrimaries\n",
         ),
         (Cause::Words, b"conj: usage: Words\n"),
         (Cause::Value, b"conj: usage: Value --threshold\n"),

@@ -32,6 +32,8 @@ mod many;
 #[cfg(test)]
 mod messages;
 #[cfg(test)]
+mod primaries;
+#[cfg(test)]
 mod refusals;
 #[cfg(test)]
 mod refusing;

@@ -49,6 +49,9 @@ const A_UNSIZED: Content = Content::Minute(
 
 const SIZES: Content = Content::Text("2025-001A 1.5\n");
 
+/// The primary is the object of another designator than the others.
+const FLEET: Content = Content::Text("2024-009Z\n");
+
 /// A folder with updates, the updated folder, options of both, and how many pairs are kept and unchanged.
 #[derive(Clone, Copy)]
 struct Case {
@@ -68,7 +71,7 @@ const ADDED: Case = Case {
     kept: 1,
 };
 
-const CASES: [Case; 16] = [
+const CASES: [Case; 18] = [
     ADDED,
     // One is taken away.
     Case {
@@ -174,6 +177,40 @@ const CASES: [Case; 16] = [
         folder: &[("a.oem", A), ("b.oem", B), ("b.oem.new", SIZES)],
         updated: &[("a.oem", A), ("b.oem", B), ("b.oem.new", SIZES)],
         options: " --sizes b.oem.new",
+        kept: 1,
+    },
+    // Pairs with a primary alone are kept.
+    Case {
+        folder: &[
+            ("a.oem", A_UNSIZED),
+            ("b.oem", B),
+            ("c.oem", C),
+            ("fleet.txt", FLEET),
+        ],
+        updated: &[
+            ("a.oem", A_UNSIZED),
+            ("b.oem", B),
+            ("c.oem", C),
+            ("fleet.txt", FLEET),
+        ],
+        options: " --primaries fleet.txt",
+        kept: 2,
+    },
+    Case {
+        folder: &[
+            ("a.oem", A_UNSIZED),
+            ("b.oem", B),
+            ("b.oem.new", B_MOVED),
+            ("c.oem", C),
+            ("c.oem~", FLEET),
+        ],
+        updated: &[
+            ("a.oem", A_UNSIZED),
+            ("b.oem", B_MOVED),
+            ("c.oem", C),
+            ("c.oem~", FLEET),
+        ],
+        options: " --primaries c.oem~",
         kept: 1,
     },
     // Of several updates of a name the last counts; of several files of a name the first is updated.

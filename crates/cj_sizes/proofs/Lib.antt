@@ -4,3 +4,6 @@ pub mod DraftLemmas
 pub mod ReaderLemmas
 pub mod GrammarLemmas
 pub mod FileLemmas
+pub mod PrimaryGrammarLemmas
+pub mod PrimaryLemmas
+pub mod PrimaryReaderLemmas

@@ -1,7 +1,8 @@
-pub mod Limits
-pub mod Sizes
-pub mod Radii
-pub mod Rows
-pub mod Reading
 pub mod Grammar
+pub mod Limits
+pub mod Primaries
+pub mod Radii
 pub mod Readers
+pub mod Reading
+pub mod Rows
+pub mod Sizes

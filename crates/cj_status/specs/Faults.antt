@@ -9,6 +9,8 @@ use Rattle.cj_kvn.specs.declared.lines.KvnCause.{KvnCause}
 use Rattle.cj_kvn.specs.declared.lines.KvnCause.TheVariants as kvn
 use Rattle.cj_formats.specs.declared.oem_cause.OemCause.{OemCause}
 use Rattle.cj_formats.specs.declared.oem_cause.OemCause.TheVariants as oem
+use Rattle.cj_formats.specs.declared.primaries_cause.PrimariesCause.{PrimariesCause}
+use Rattle.cj_formats.specs.declared.primaries_cause.PrimariesCause.TheVariants as primaries
 use Rattle.cj_formats.specs.declared.sizes_cause.SizesCause.{SizesCause}
 use Rattle.cj_formats.specs.declared.sizes_cause.SizesCause.TheVariants as sizes
 use Rattle.cj_formats.specs.declared.cert_cause.CertCause.{CertCause}
@@ -23,7 +25,7 @@ use Rattle.cj_status.specs.declared.status.Status.TheVariants as status
 use Rattle.cj_status.specs.declared.status.CertificateCause.{CertificateCause}
 use Rattle.cj_status.specs.declared.status.CertificateCause.TheVariants.{NoFile, Text, Refused, NoReport, Report}
 use Rattle.cj_status.specs.declared.status.FileCause.{FileCause}
-use Rattle.cj_status.specs.declared.status.FileCause.TheVariants.{Oem, MixedFrames, Sizes, NoSizes, Uncovered}
+use Rattle.cj_status.specs.declared.status.FileCause.TheVariants.{Oem, MixedFrames, Sizes, NoSizes, Primaries, NoPrimaries, Uncovered}
 use Rattle.cj_status.specs.declared.status.LimitFault.{LimitFault}
 use Rattle.cj_status.specs.declared.status.LimitFault.TheVariants.{Objects, FileBytes, Nodes, Window, Slots, Cells, Told}
 
@@ -76,11 +78,20 @@ sizes_text sizes.Number = codes "Number"
 sizes_text sizes.Range = codes "Range"
 sizes_text sizes.Twice = codes "Twice"
 
+-- and of a file of primaries
+abbrev pub primaries_text : PrimariesCause → List ℕ
+primaries_text (primaries.Kvn cause) = codes "Kvn " ++ kvn_text cause
+primaries_text primaries.Form = codes "Form"
+primaries_text primaries.Twice = codes "Twice"
+primaries_text primaries.Unknown = codes "Unknown"
+
 abbrev pub cause_text : FileCause → List ℕ
 cause_text (Oem cause) = oem_text cause
 cause_text MixedFrames = codes "MixedFrames"
 cause_text (Sizes cause) = codes "Sizes " ++ sizes_text cause
 cause_text NoSizes = codes "NoSizes"
+cause_text (Primaries cause) = codes "Primaries " ++ primaries_text cause
+cause_text NoPrimaries = codes "NoPrimaries"
 cause_text (Uncovered micros) = codes "Uncovered"
 
 -- what a fault line names behind it: the tick, or the nearest where there is no such tick
@@ -89,6 +100,8 @@ cause_rest (Oem cause) = []
 cause_rest MixedFrames = []
 cause_rest (Sizes cause) = []
 cause_rest NoSizes = []
+cause_rest (Primaries cause) = []
+cause_rest NoPrimaries = []
 cause_rest (Uncovered micros) = codes " " ++ epoch_of (max FIRST_TICK (min LAST_TICK micros))
 
 -- the same of the text of a certificate
@@ -101,6 +114,7 @@ cert_text certs.End = codes "End"
 abbrev pub check_text : CheckCause → List ℕ
 check_text checks.Header = codes "Header"
 check_text checks.SizeOf = codes "SizeOf"
+check_text checks.PrimaryOf = codes "PrimaryOf"
 check_text checks.ShellOf = codes "ShellOf"
 check_text checks.BoxOf = codes "BoxOf"
 check_text checks.Untiled = codes "Untiled"

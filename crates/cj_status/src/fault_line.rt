@@ -2,12 +2,12 @@
 ghost use Rattle.std.specs.Prelude.{◌≡◌, ◌++◌, IfOk, OnOk, codes};
 ghost use Rattle.std.specs.Fmt.{decimal};
 ghost use Rattle.cj_status.specs.Faults.{line_of, fault_body, refused_body, usage_text, limit_text, shown_byte, shown_name};
-ghost use Rattle.cj_status.specs.Faults.{cause_rest, cause_text, certificate_text, cert_text, check_text, oem_text, kvn_text, epoch_text, sizes_text};
+ghost use Rattle.cj_status.specs.Faults.{cause_rest, cause_text, certificate_text, cert_text, check_text, oem_text, kvn_text, epoch_text, primaries_text, sizes_text};
 
 use crate::status::{CertificateCause, FileCause, LimitFault, Status};
 use cj_base::Tick;
 use cj_epoch::{EpochFault, epoch_text};
-use cj_formats::{CertCause, CheckCause, OemCause, SizesCause};
+use cj_formats::{CertCause, CheckCause, OemCause, PrimariesCause, SizesCause};
 use cj_kvn::KvnCause;
 use cj_words::{UsageFault, option_name};
 use std::alloc::{AllocError, Global};
@@ -75,9 +75,12 @@ fn push_rest(text: &mut Vec<u8>, cause: FileCause) -> Result<(), AllocError>
             text.push(b' ')?;
             text.extend_from_slice(&epoch_text(Tick::nearest(micros)))
         }
-        FileCause::Oem(_) | FileCause::MixedFrames | FileCause::Sizes(_) | FileCause::NoSizes => {
-            Ok(())
-        }
+        FileCause::Oem(_)
+        | FileCause::MixedFrames
+        | FileCause::Sizes(_)
+        | FileCause::NoSizes
+        | FileCause::Primaries(_)
+        | FileCause::NoPrimaries => Ok(()),
     }
 }
 
@@ -126,6 +129,7 @@ fn check_name(cause: CheckCause) -> &'static [u8]
     match cause {
         CheckCause::Header => b"Header",
         CheckCause::SizeOf => b"SizeOf",
+        CheckCause::PrimaryOf => b"PrimaryOf",
         CheckCause::ShellOf => b"ShellOf",
         CheckCause::BoxOf => b"BoxOf",
         CheckCause::Untiled => b"Untiled",
@@ -145,6 +149,8 @@ pub fn cause_name(cause: FileCause) -> &'static [u8]
         FileCause::MixedFrames => b"MixedFrames",
         FileCause::Sizes(cause) => sizes_name(cause),
         FileCause::NoSizes => b"NoSizes",
+        FileCause::Primaries(cause) => primaries_name(cause),
+        FileCause::NoPrimaries => b"NoPrimaries",
         FileCause::Uncovered { .. } => b"Uncovered",
     }
 }
@@ -159,6 +165,27 @@ fn sizes_name(cause: SizesCause) -> &'static [u8]
         SizesCause::Number => b"Sizes Number",
         SizesCause::Range => b"Sizes Range",
         SizesCause::Twice => b"Sizes Twice",
+    }
+}
+
+/// The name of a cause in a file of primaries, behind the word for all such.
+fn primaries_name(cause: PrimariesCause) -> &'static [u8]
+    ensures { result.now ≡ codes "Primaries " ++ primaries_text cause }
+{
+    match cause {
+        PrimariesCause::Kvn(cause) => primaries_kvn_name(cause),
+        PrimariesCause::Form => b"Primaries Form",
+        PrimariesCause::Twice => b"Primaries Twice",
+        PrimariesCause::Unknown => b"Primaries Unknown",
+    }
+}
+
+fn primaries_kvn_name(cause: KvnCause) -> &'static [u8]
+    ensures { result.now ≡ codes "Primaries Kvn " ++ kvn_text cause }
+{
+    match cause {
+        KvnCause::NotPrintable => b"Primaries Kvn NotPrintable",
+        KvnCause::NoLineForm => b"Primaries Kvn NoLineForm",
     }
 }
 

@@ -1,7 +1,7 @@
 ghost use Rattle.std.specs.Prelude.{◌≡◌};
 ghost use Rattle.cj_status.specs.Statuses.{number_of};
 
-use cj_formats::{CertCause, CheckCause, OemCause, SizesCause};
+use cj_formats::{CertCause, CheckCause, OemCause, PrimariesCause, SizesCause};
 use cj_io::Name;
 use cj_words::UsageFault;
 
@@ -16,6 +16,10 @@ pub enum FileCause {
     Sizes(SizesCause),
     /// No file has this name, which was given for the file of sizes.
     NoSizes,
+    /// It is not a file of primaries.
+    Primaries(PrimariesCause),
+    /// No file has this name, which was given for the file of primaries.
+    NoPrimaries,
     /// Its object has to cover the window, and has no state at this tick of it, the first of such: so many microseconds since 1970.
     Uncovered { micros: u64 },
 }

@@ -8,7 +8,7 @@ use Rattle.cj_epoch.specs.Reading.{reading_of}
 use Rattle.cj_epoch.specs.declared.fault.EpochFault.{EpochFault}
 use Rattle.cj_formats.specs.declared.cert_format.CertFormat.{CertFormat}
 use Rattle.cj_words.specs.declared.option.Opt.{Opt}
-use Rattle.cj_words.specs.declared.option.Opt.TheVariants.{From, To, Originator, Cells, AsHermite3, Sizes, CertVersion as Version, Rtn, Coverage, MustCover, Large}
+use Rattle.cj_words.specs.declared.option.Opt.TheVariants.{From, To, Originator, Cells, AsHermite3, Sizes, Primaries, CertVersion as Version, Rtn, Coverage, MustCover, Large}
 use Rattle.cj_words.specs.declared.option.UsageFault.{UsageFault}
 use Rattle.cj_words.specs.Commands.{PlainScreening, screening_of, workers_of}
 use Rattle.cj_words.specs.Limits.{limits_of}
@@ -96,6 +96,7 @@ unsized_ends threshold gs s begins ends is =
       suffix = suffix;
       as_hermite3 = is_given AsHermite3 gs;
       sizes = None;
+      primaries = None;
       coverage = is_given Coverage gs;
       must_cover = is_given MustCover gs;
       large = is_given Large gs;
@@ -107,9 +108,11 @@ unsized_ends threshold gs s begins ends is =
 sized_ends : (some s : PlainSettings) (gs : List Given) → HasEnds some → sized_of some gs ≡ Ok s → HasEnds s
 unfolding sized_of
 sized_ends some s gs has is =
-    let made : Option (List ℕ) → PlainSettings = λ sizes. record some { sizes = sizes } in
-    let sizes = step_of (in_range Sizes (name_or (value_of Sizes gs))) (λ x. Ok (made x)) s is in
-    let whole = ok_is (made sizes.0) s sizes.2 in
+    let made : Option (List ℕ) → Option (List ℕ) → PlainSettings = λ sizes primaries. record some { sizes = sizes; primaries = primaries } in
+    let read : Result (Option (List ℕ)) UsageFault = in_range Primaries (name_or (value_of Primaries gs)) in
+    let sizes = step_of (in_range Sizes (name_or (value_of Sizes gs))) (λ x. read >>= λ y. Ok (made x y)) s is in
+    let primaries = step_of read (λ y. Ok (made sizes.0 y)) s sizes.2 in
+    let whole = ok_is (made sizes.0 primaries.0) s primaries.2 in
     (ap (λ (x : PlainSettings). is_some x.from) (sym whole) ∙ has.0, ap (λ (x : PlainSettings). is_some x.to) (sym whole) ∙ has.1)
 
 settings_of : (P : PlainSettings → Type 0) (made s : PlainScreening) (x : PlainSettings) → made ≡ s → x ≡ made.settings → P x → P s.settings

@@ -4,7 +4,7 @@ use Rattle.std.specs.List.{list_all, before_first, after_first}
 use Rattle.std.specs.Str.{bytes_eq}
 use Rattle.cj_kvn.specs.Lines.{is_equals}
 use Rattle.cj_words.specs.declared.option.Opt.{Opt}
-use Rattle.cj_words.specs.declared.option.Opt.TheVariants.{Threshold, Workers, From, To, Suffix, Cert, Originator, Cells, Seed, Objects, Minutes, AsHermite3, Sizes, CertVersion, Update, Changed, Report, Out, CertDir, Rtn, Coverage, MustCover, Brief, Within, Warnings, AllFaults, Large}
+use Rattle.cj_words.specs.declared.option.Opt.TheVariants.{Threshold, Workers, From, To, Suffix, Cert, Originator, Cells, Seed, Objects, Minutes, AsHermite3, Sizes, Primaries, CertVersion, Update, Changed, Report, Out, CertDir, Rtn, Coverage, MustCover, Brief, Within, Warnings, AllFaults, Large}
 use Rattle.cj_words.specs.declared.command.Verb.{Verb}
 use Rattle.cj_words.specs.declared.command.Verb.TheVariants.{Screen, Check, Generate, Selfrun, Rewrite, Thin, Rescreen}
 
@@ -22,6 +22,7 @@ name_of Objects = codes "--objects"
 name_of Minutes = codes "--minutes"
 name_of AsHermite3 = codes "--as-hermite3"
 name_of Sizes = codes "--sizes"
+name_of Primaries = codes "--primaries"
 name_of CertVersion = codes "--cert-version"
 name_of Update = codes "--update"
 name_of Changed = codes "--changed"
@@ -71,14 +72,14 @@ is_screening_name name =
     || (bytes_eq name (name_of CertVersion)
     || (bytes_eq name (name_of Out)
     || (bytes_eq name (name_of Rtn)
-    || (bytes_eq name (name_of Coverage) || (bytes_eq name (name_of MustCover) || bytes_eq name (name_of Brief)))))))))
+    || (bytes_eq name (name_of Coverage) || (bytes_eq name (name_of MustCover) || (bytes_eq name (name_of Brief) || bytes_eq name (name_of Primaries))))))))))
 
 -- the name of an option of each command that checks the certificate of a directory
 abbrev pub is_checking_name : List ℕ → Bool
 is_checking_name name =
     is_directory_name name
     || (bytes_eq name (name_of Cert)
-    || (bytes_eq name (name_of CertDir) || (bytes_eq name (name_of Update) || bytes_eq name (name_of Brief))))
+    || (bytes_eq name (name_of CertDir) || (bytes_eq name (name_of Update) || (bytes_eq name (name_of Brief) || bytes_eq name (name_of Primaries)))))
 
 -- the name of an option of the command
 abbrev pub is_name : Verb → List ℕ → Bool
@@ -210,7 +211,7 @@ are_others_single givens =
     && (is_single Cert givens
     && (is_single Cells givens
     && (is_single Update givens
-    && (is_single Changed givens && (is_single MustCover givens && (is_single Within givens && is_single Large givens))))))
+    && (is_single Changed givens && (is_single MustCover givens && (is_single Within givens && (is_single Large givens && is_single Primaries givens)))))))
 
 -- so does each
 unfoldable pub are_single : List Given → Bool
@@ -237,9 +238,13 @@ is_given option givens = nat_le 1 (count_of option givens)
 abbrev pub has_ends : List Given → Bool
 has_ends givens = is_given From givens && is_given To givens
 
--- the certificate may be in brief, as it is where a run may take a whole sky
+-- a run may take a whole sky, or primaries are named: then the certificate is in brief
+abbrev pub implies_brief : List Given → Bool
+implies_brief givens = is_given Large givens || is_given Primaries givens
+
+-- the certificate may be in brief
 abbrev pub asks_brief : List Given → Bool
-asks_brief givens = is_given Brief givens || is_given Large givens
+asks_brief givens = is_given Brief givens || implies_brief givens
 
 -- something is asked of messages or of the certificate
 abbrev pub shapes_outputs : List Given → Bool

@@ -19,14 +19,14 @@ use Rattle.cj_epoch.specs.declared.fault.EpochFault.{EpochFault}
 use Rattle.cj_words.specs.declared.option.Opt.{Opt}
 use Rattle.cj_words.specs.declared.option.UsageFault.{UsageFault}
 use Rattle.cj_words.specs.declared.option.UsageFault.TheVariants.{Value}
-use Rattle.cj_words.specs.declared.option.Opt.TheVariants.{Threshold, From, To, Suffix, AsHermite3, Sizes, Coverage, MustCover, Large}
+use Rattle.cj_words.specs.declared.option.Opt.TheVariants.{Threshold, From, To, Suffix, AsHermite3, Sizes, Primaries, Coverage, MustCover, Large}
 use Rattle.cj_words.specs.declared.settings.Settings.{Settings}
 use Rattle.cj_words.specs.Limits.{limits_of}
 use Rattle.cj_words.specs.Options.{Given, value_of, is_given}
 
 -- settings: the threshold in metres, the ends of the window in ticks, where they are given, what the names of the files that are taken
--- end with, whether each file is taken as if it declared the cubic, the name of the file of sizes, where it is given, whether the report
--- tells which ticks each object covers, whether each has to cover the window, whether a run may take a whole sky, and how much it may take
+-- end with, whether each file is taken as if it declared the cubic, the names of the files of sizes and of primaries, where they are given,
+-- whether the report tells which ticks each object covers, whether each has to cover the window, whether a run may take a whole sky, and how much it may take
 pub record PlainSettings : Type 0 where
   pub threshold : ℕ
   pub from : Option ℕ
@@ -34,6 +34,7 @@ pub record PlainSettings : Type 0 where
   pub suffix : List ℕ
   pub as_hermite3 : Bool
   pub sizes : Option (List ℕ)
+  pub primaries : Option (List ℕ)
   pub coverage : Bool
   pub must_cover : Bool
   pub large : Bool
@@ -52,6 +53,7 @@ plain_settings s = record {
   suffix = s.suffix.now;
   as_hermite3 = s.as_hermite3;
   sizes = option_copied s.sizes;
+  primaries = option_copied s.primaries;
   coverage = s.coverage;
   must_cover = s.must_cover;
   large = s.large;
@@ -177,7 +179,7 @@ threshold_of givens = in_range Threshold (number_or 1 1_000_000 5000 (value_of T
 abbrev pub suffix_of : List Given → Result (List ℕ) UsageFault
 suffix_of givens = in_range Suffix (file_text_or 20 (codes ".oem") (value_of Suffix givens))
 
--- the settings with this threshold that options give but for the file of sizes, or the first of these options whose value is out of its range
+-- the settings with this threshold that options give but for the files of sizes and of primaries, or the first of these options whose value is out of its range
 unfoldable pub unsized_of : ℕ → List Given → Result PlainSettings UsageFault
 unsized_of threshold givens = do
   from ← in_range From (epoch_or (value_of From givens))
@@ -190,14 +192,16 @@ unsized_of threshold givens = do
     suffix = suffix;
     as_hermite3 = is_given AsHermite3 givens;
     sizes = None;
+    primaries = None;
     coverage = is_given Coverage givens;
     must_cover = is_given MustCover givens;
     large = is_given Large givens;
     limits = limits_of (is_given Large givens);
   })
 
--- these settings with the file of sizes that options name, where they name one
+-- these settings with the files of sizes and of primaries that options name, where they name them
 unfoldable pub sized_of : PlainSettings → List Given → Result PlainSettings UsageFault
 sized_of asked givens = do
   sizes ← in_range Sizes (name_or (value_of Sizes givens))
-  Ok (record asked { sizes = sizes })
+  primaries ← in_range Primaries (name_or (value_of Primaries givens))
+  Ok (record asked { sizes = sizes; primaries = primaries })

@@ -80,6 +80,7 @@ fn are_others_single(words: &[Word]) -> bool
         && is_single(words, Opt::MustCover)
         && is_single(words, Opt::Within)
         && is_single(words, Opt::Large)
+        && is_single(words, Opt::Primaries)
 }
 
 fn is_single(words: &[Word], option: Opt) -> bool
@@ -119,12 +120,20 @@ fn has_report(words: &[Word]) -> bool
     !is_given(words, Opt::Coverage) || is_given(words, Opt::Report)
 }
 
-/// Whether the certificate may be in brief, as it is where a run may take a whole sky.
+/// Whether an option is given with which the certificate is in brief.
+fn implies_brief(words: &[Word]) -> bool
+    requires { IsTrue (spec.are_listed (given_of words.now)) }
+    ensures { result ≡ spec.implies_brief (listed (given_of words.now)) }
+{
+    is_given(words, Opt::Large) || is_given(words, Opt::Primaries)
+}
+
+/// Whether the certificate may be in brief, as it is where a run may take a whole sky and where primaries are named.
 pub fn asks_brief(words: &[Word]) -> bool
     requires { IsTrue (spec.are_listed (given_of words.now)) }
     ensures { result ≡ spec.asks_brief (listed (given_of words.now)) }
 {
-    is_given(words, Opt::Brief) || is_given(words, Opt::Large)
+    is_given(words, Opt::Brief) || implies_brief(words)
 }
 
 /// Whether something is asked of messages or of the certificate.
@@ -197,6 +206,7 @@ fn is_of_screening(name: &[u8]) -> bool
         || is_named(name, Opt::Coverage)
         || is_named(name, Opt::MustCover)
         || is_named(name, Opt::Brief)
+        || is_named(name, Opt::Primaries)
 }
 
 /// Whether it is an option of each command that checks the certificate of a directory.
@@ -208,6 +218,7 @@ fn is_of_checking(name: &[u8]) -> bool
         || is_named(name, Opt::CertDir)
         || is_named(name, Opt::Update)
         || is_named(name, Opt::Brief)
+        || is_named(name, Opt::Primaries)
 }
 
 /// Whether it is an option of each command that reads the files of a directory.

@@ -30,6 +30,8 @@ pub enum Opt {
     AsHermite3,
     /// The file of the sizes of objects.
     Sizes,
+    /// The file of the primaries, the objects whose pairs alone are looked at; then the certificate is in brief.
+    Primaries,
     /// In which version the certificate is written.
     CertVersion,
     /// What the names of update files end with.
@@ -87,6 +89,7 @@ pub fn option_name(option: Opt) -> &'static [u8]
         Opt::Minutes => b"--minutes",
         Opt::AsHermite3 => b"--as-hermite3",
         Opt::Sizes => b"--sizes",
+        Opt::Primaries => b"--primaries",
         Opt::CertVersion => b"--cert-version",
         Opt::Update => b"--update",
         Opt::Changed => b"--changed",

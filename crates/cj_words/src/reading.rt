@@ -40,7 +40,7 @@ pub fn suffix_of(words: &[Word]) -> Result<&[u8], UsageFault>
     }
 }
 
-/// The settings with this threshold but for the file of sizes, which stands behind the other options.
+/// The settings with this threshold but for the files of sizes and of primaries, which stand behind the other options.
 #[tactic(auto, unfolding(crate::specs::Settings::unsized_of))]
 pub fn unsized_of(words: &[Word], threshold: u64) -> Result<Settings<'_>, UsageFault>
     requires listed { IsTrue (options.are_listed (given_of words.now)) }
@@ -67,6 +67,7 @@ pub fn unsized_of(words: &[Word], threshold: u64) -> Result<Settings<'_>, UsageF
         suffix,
         as_hermite3: is_given(words, Opt::AsHermite3),
         sizes: None,
+        primaries: None,
         coverage: is_given(words, Opt::Coverage),
         must_cover: is_given(words, Opt::MustCover),
         large,
@@ -74,7 +75,7 @@ pub fn unsized_of(words: &[Word], threshold: u64) -> Result<Settings<'_>, UsageF
     })
 }
 
-/// These settings with the file of sizes that the options name, where they name one.
+/// These settings with the files of sizes and of primaries that the options name, where they name them.
 #[tactic(auto, unfolding(crate::specs::Settings::sized_of))]
 pub fn sized_of<'w>(
     mut settings: Settings<'w>,
@@ -88,7 +89,11 @@ pub fn sized_of<'w>(
     let Some(sizes) = name_or(value_of(words, Opt::Sizes)) else {
         return Err(out_of_range(Opt::Sizes));
     };
+    let Some(primaries) = name_or(value_of(words, Opt::Primaries)) else {
+        return Err(out_of_range(Opt::Primaries));
+    };
     settings.sizes = sizes;
+    settings.primaries = primaries;
     Ok(settings)
 }
 

@@ -8,7 +8,8 @@ use cj_base::{Limits, Text, Tick};
 /// A word of the command line.
 pub type Word = Text;
 
-/// What a command line asks for of the files of a directory. The suffix and the name of the file of sizes are lent by the words.
+/// What a command line asks for of the files of a directory. The suffix and the names of the files of sizes and of primaries are lent by
+/// the words.
 #[derive(Clone, Copy, Debug, PartialEq, Eq)]
 pub struct Settings<'w> {
     /// The greatest miss distance that is reported, in metres, from 1 to 1,000,000.
@@ -23,6 +24,8 @@ pub struct Settings<'w> {
     pub as_hermite3: bool,
     /// The name of the file of sizes, where it is given: 1 to 200 such bytes. Without it no object has a size.
     pub sizes: Option<&'w [u8]>,
+    /// The name of the file of primaries, where it is given: 1 to 200 such bytes. Without it all pairs are looked at.
+    pub primaries: Option<&'w [u8]>,
     /// Whether the report tells which ticks of the window each object covers.
     pub coverage: bool,
     /// Whether an object that does not cover the window is refused.

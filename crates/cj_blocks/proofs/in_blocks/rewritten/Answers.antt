@@ -19,7 +19,7 @@ pub block_lines-requires-clause-exist : goal.block_lines-requires-clause-exist
 block_lines-requires-clause-exist c =
     let problem = c.args.problem.now in
     let case = plain_problem problem in
-    pairs_of_objects (length case.tracks) (length problem.tracks) (keeps_between case.threshold case.sizes (shells_listed (plain_certificate c.args.cert))) c.args.kept.now c.requires
+    pairs_of_objects (length case.tracks) (length problem.tracks) (keeps_between case.primaries case.threshold case.sizes (shells_listed (plain_certificate c.args.cert))) c.args.kept.now c.requires
     (length-map problem.tracks plain_track)
 
 pub block_lines-requires-clause-all : goal.block_lines-requires-clause-all

@@ -1,4 +1,4 @@
-use Rattle.std.proofs.Common.{◌≡◌, ℕ, ◌+◌, ◌++◌, ◌∙◌, ◌≤◌, List, [], ◌∷◌, Some, None, drop, length, map, ap, refl, sym, subst, arith, length-append}
+use Rattle.std.proofs.Common.{◌≡◌, ℕ, ◌+◌, ◌++◌, ◌∙◌, ◌≤◌, [], ◌∷◌, drop, length, map, ap, refl, sym, subst, arith, length-append}
 use Rattle.std.specs.Prelude.{option_map}
 use Rattle.std.specs.Vec.Iter.{into_iter_items}
 use Rattle.std.proofs.lemmas.List.{length-map, map-append, nil_from_length}
@@ -8,9 +8,8 @@ use Rattle.cj_case.specs.Tables.{Table}
 use Rattle.cj_case.specs.Boxes.{plain_box, plain_boxes, plain_rows}
 use Rattle.cj_formats.specs.declared.check_cause.CheckCause.TheVariants.{ShellOf}
 use Rattle.cj_bezier.specs.AllBoxes.{boxes_of}
-use Rattle.cj_checker.specs.declared.row.Row.{Row}
 use Rattle.cj_checker.specs.First.{failed}
-use Rattle.cj_checker.specs.HullBoxes.{plain_row}
+use Rattle.cj_checker.specs.Rows.{plain_row}
 use Rattle.cj_brief_checker.proofs.ShownLemmas.{AreLeft, all_fit, all_left, boxes_grow, boxes_whole, one_fails, one_more, row_long, too_few}
 use Rattle.cj_brief_checker.proofs.showing.in_one.Goals as goal
 

@@ -2,7 +2,7 @@ use Rattle.std.proofs.Common.{◌≡◌, ◌∙◌, Ok, ap, arith, get_or, lengt
 use Rattle.std.specs.Prelude.{IfOk}
 use Rattle.std.proofs.lemmas.List.{get_or-map, length-map}
 use Rattle.cj_case.specs.Problems.{plain_problem}
-use Rattle.cj_checker.specs.HullBoxes.{plain_row, row_at}
+use Rattle.cj_checker.specs.Rows.{plain_row, row_at}
 use Rattle.cj_brief_checker.proofs.ShownLemmas.{rows_are}
 use Rattle.cj_brief_checker.proofs.showing.rows_of.Goals as goal
 

@@ -1,4 +1,4 @@
-use Rattle.std.proofs.Common.{◌≡◌, ◌∙◌, ℕ, ap, arith}
+use Rattle.std.proofs.Common.{◌∙◌, ℕ, ap, arith}
 use Rattle.cj_case.specs.Problems.{plain_problem}
 use Rattle.cj_brief_checker.specs.Shown.{rows_from}
 use Rattle.cj_brief_checker.proofs.ShownLemmas.{rows_count}

@@ -1,4 +1,4 @@
-use Rattle.std.proofs.Common.{◌≡◌, ℕ, ◌<◌, ◌≤◌, List, length, map, sym, ap, ◌∙◌, subst}
+use Rattle.std.proofs.Common.{ℕ, ◌<◌, ◌≤◌, List, length, map, sym, ap, ◌∙◌, subst}
 use Rattle.std.specs.Prelude.{All, IfErr, IfOk}
 use Rattle.cj_case.specs.declared.pair.Pair.{Pair}
 use Rattle.cj_case.specs.Pairs.{objects_of}

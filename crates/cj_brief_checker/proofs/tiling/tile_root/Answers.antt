@@ -1,4 +1,4 @@
-use Rattle.std.proofs.Common.{◌≡◌, ℕ, ◌+◌, ◌∷◌, List, true, false, length, drop, map, sym, ap, ◌∙◌, arith}
+use Rattle.std.proofs.Common.{ℕ, ◌+◌, ◌∷◌, List, true, false, length, drop, map, sym, ap, ◌∙◌, arith}
 use Rattle.std.specs.Prelude.{if◌then◌else◌}
 use Rattle.cj_case.specs.Leaves.{PlainLeaf}
 use Rattle.cj_formats.specs.declared.check_cause.CheckCause.TheVariants.{Untiled}

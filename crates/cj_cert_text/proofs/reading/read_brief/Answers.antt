@@ -1,4 +1,4 @@
-use Rattle.std.proofs.Common.{Err, Ok}
+use Rattle.std.proofs.Common.{Ok}
 use Rattle.std.proofs.lemmas.Result.{err_from_is_err_and}
 use Rattle.cj_cert_text.proofs.ReaderLemmas.{brief_fault, brief_gives_again, brief_gives_few, brief_gives_only, brief_made}
 use Rattle.cj_cert_text.proofs.reading.read_brief.Goals as goal

@@ -1,4 +1,4 @@
-use Rattle.std.proofs.Common.{Err, Ok, refl}
+use Rattle.std.proofs.Common.{Ok, refl}
 use Rattle.std.proofs.lemmas.Result.{err_from_is_err_and}
 use Rattle.cj_cert_text.specs.Readers.{plain_draft}
 use Rattle.cj_cert_text.proofs.ReaderLemmas.{full_fault, full_made, gives_again, gives_few, gives_only, read_allows}

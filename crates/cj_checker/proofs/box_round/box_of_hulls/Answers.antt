@@ -1,10 +1,9 @@
-use Rattle.std.proofs.Common.{◌≡◌, ℕ, Some, None, ap, sym, subst, ◌∙◌, arith}
+use Rattle.std.proofs.Common.{Some, ap, sym, ◌∙◌, arith}
 use Rattle.std.specs.Prelude.{option_map}
 use Rattle.cj_track.specs.Tracks.{plain_track}
 use Rattle.cj_case.specs.Boxes.{plain_box}
 use Rattle.cj_bezier.specs.SlotBoxes.{box_of}
 use Rattle.cj_bezier.proofs.BoxRoundLemmas.{box_none}
-use Rattle.cj_checker.specs.HullBoxes.{reaches_of_spans}
 use Rattle.cj_checker.proofs.box_round.box_of_hulls.Goals as goal
 
 pub box_round-requires-clause-inside : goal.box_round-requires-clause-inside

@@ -4,8 +4,8 @@ use Rattle.cj_track.specs.Tracks.{plain_track}
 use Rattle.cj_bezier.specs.Hulls.{axes_of}
 use Rattle.cj_bezier.specs.Sizes.{HULL_REACH}
 use Rattle.cj_bezier.proofs.BoxRoundLemmas.{box_none}
-use Rattle.cj_checker.specs.HullBoxes.{reaches_of_spans}
-use Rattle.cj_checker.proofs.HullBoxLemmas.{first_part, one_part_more, no_part_more, last_part}
+use Rattle.cj_bezier.specs.JoinedBoxes.{reaches_of_spans}
+use Rattle.cj_checker.proofs.RowLemmas.{first_part, one_part_more, no_part_more, last_part}
 use Rattle.cj_checker.proofs.box_round.box_round.Goals as goal
 
 pub loop-part-init : goal.loop-part-init

@@ -1,7 +1,7 @@
 use Rattle.std.proofs.Common.{◌-◌}
 use Rattle.cj_track.specs.Tracks.{plain_track}
 use Rattle.cj_checker.specs.Walks.{IsWalk}
-use Rattle.cj_checker.proofs.HullBoxLemmas.{IsBoxUpTo}
+use Rattle.cj_checker.proofs.RowLemmas.{IsBoxUpTo}
 use Rattle.cj_checker.proofs.box_round.box_round.Given as goal
 
 abbrev pub invariant-loop-part : goal.invariant-loop-part

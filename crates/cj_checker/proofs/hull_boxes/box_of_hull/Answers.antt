@@ -1,7 +1,7 @@
 use Rattle.std.proofs.Common.{get_or, rules, ◌∙◌}
 use Rattle.cj_bezier.specs.Sizes.{HULL_REACH}
 use Rattle.cj_bezier.specs.SlotBoxes.{round_two}
-use Rattle.cj_checker.proofs.HullBoxLemmas.{point_at, point_within, reaches_by_points}
+use Rattle.cj_bezier.proofs.JoinedBoxLemmas.{point_at, point_within, reaches_by_points}
 use Rattle.cj_checker.proofs.hull_boxes.box_of_hull.Goals as goal
 
 pub returns-clause-value : goal.returns-clause-value

@@ -1,4 +1,4 @@
-use Rattle.cj_checker.proofs.HullBoxLemmas.{span_within}
+use Rattle.cj_bezier.proofs.JoinedBoxLemmas.{span_within}
 use Rattle.cj_checker.proofs.hull_boxes.join_boxes.Goals as goal
 
 pub returns-clause-value : goal.returns-clause-value

@@ -1,7 +1,7 @@
 use Rattle.std.proofs.Common.{FitsSigned, refl, rules}
 use Rattle.std.specs.Int.{int_min, int_max, w128}
 use Rattle.cj_interval.proofs.MachineLemmas.{read_known}
-use Rattle.cj_checker.proofs.HullBoxLemmas.{joined_order}
+use Rattle.cj_bezier.proofs.JoinedBoxLemmas.{joined_order}
 use Rattle.cj_checker.proofs.hull_boxes.join_spans.Goals as goal
 
 pub returns-clause-lower : goal.returns-clause-lower

@@ -4,7 +4,7 @@ use Rattle.std.proofs.lemmas.List.{map-append}
 use Rattle.cj_track.specs.Tracks.{plain_track}
 use Rattle.cj_case.specs.Boxes.{PlainBox, plain_box, plain_boxes}
 use Rattle.cj_bezier.specs.AllBoxes.{boxes_over}
-use Rattle.cj_checker.proofs.HullBoxLemmas.{boxes_more}
+use Rattle.cj_checker.proofs.RowLemmas.{boxes_more}
 use Rattle.cj_checker.proofs.rows.append_boxes.Goals as goal
 
 pub loop-slot-init : goal.loop-slot-init

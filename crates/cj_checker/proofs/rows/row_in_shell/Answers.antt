@@ -5,8 +5,8 @@ use Rattle.cj_case.specs.declared.axis_box.AxisBox.{AxisBox}
 use Rattle.cj_case.specs.Boxes.{plain_boxes}
 use Rattle.cj_bezier.specs.AllBoxes.{boxes_over}
 use Rattle.cj_bezier.specs.Parts.{hulls_of}
-use Rattle.cj_checker.specs.Tests.{has_state_between, shows_radii}
-use Rattle.cj_checker.proofs.HullBoxLemmas.{row_not_shown, row_shown_by}
+use Rattle.cj_checker.specs.Tests.{shows_radii}
+use Rattle.cj_checker.proofs.RowLemmas.{row_not_shown, row_shown_by}
 use Rattle.cj_checker.proofs.TestLemmas.{state_none, state_some}
 use Rattle.cj_checker.proofs.rows.row_in_shell.Goals as goal
 

@@ -1,6 +1,6 @@
 use Rattle.cj_track.specs.Tracks.{plain_track}
 use Rattle.cj_case.specs.Problems.{plain_problem}
-use Rattle.cj_checker.proofs.HullBoxLemmas.{row_past}
+use Rattle.cj_checker.proofs.RowLemmas.{row_past}
 use Rattle.cj_checker.proofs.UnfitLemmas.{read_past}
 use Rattle.cj_checker.proofs.rows.row_shown.Goals as goal
 

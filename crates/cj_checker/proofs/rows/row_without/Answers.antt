@@ -3,7 +3,7 @@ use Rattle.std.specs.Prelude.{None, not}
 use Rattle.cj_track.specs.Tracks.{plain_track}
 use Rattle.cj_case.specs.Boxes.{plain_boxes}
 use Rattle.cj_checker.specs.Tests.{has_state_between}
-use Rattle.cj_checker.proofs.HullBoxLemmas.{nones_from, row_not_shown, row_shown_by}
+use Rattle.cj_checker.proofs.RowLemmas.{nones_from, row_not_shown, row_shown_by}
 use Rattle.cj_checker.proofs.TestLemmas.{decides_none}
 use Rattle.cj_checker.proofs.rows.row_without.Goals as goal
 

@@ -1,4 +1,4 @@
-use Rattle.std.proofs.Common.{◌≡◌, ℕ, ◌+◌, ◌*◌, ◌<◌, ◌≤◌, List, ◌++◌, ap, arith, drop, get_or, length, map, refl, subst, sym, ◌∙◌}
+use Rattle.std.proofs.Common.{ℕ, ◌+◌, ◌*◌, ◌<◌, ◌≤◌, List, ◌++◌, ap, arith, drop, length, map, refl, subst, sym, ◌∙◌}
 use Rattle.std.specs.Prelude.{All, IfErr, IfOk, Result}
 use Rattle.std.proofs.lemmas.List.Elements.{All-drop, All-take}
 use Rattle.cj_case.specs.Problems.{plain_problem}

@@ -1,4 +1,4 @@
-use Rattle.std.proofs.Common.{◌∙◌, ◌*◌, ◌<◌, arith, length, subst, sym, ℕ}
+use Rattle.std.proofs.Common.{◌∙◌, arith, sym}
 use Rattle.cj_checker.proofs.tiling_shared.try_turns.Goals as goal
 
 pub returns : goal.returns

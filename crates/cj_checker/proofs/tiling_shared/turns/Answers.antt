@@ -1,4 +1,4 @@
-use Rattle.std.proofs.Common.{◌+◌, ◌*◌, ◌/◌, ◌%◌, ◌<◌, ◌≤◌, length, arith, div-add-mod'}
+use Rattle.std.proofs.Common.{length, arith, div-add-mod'}
 use Rattle.std.proofs.lemmas.Nat.{mod_below}
 use Rattle.cj_checker.proofs.tiling_shared.turns.Goals as goal
 

@@ -1,4 +1,4 @@
-use Rattle.std.proofs.Common.{◌≡◌, ◌∙◌, ◌<◌, List, Result, Ok, Err, [], None, length, get_or, ap, sym, subst, arith}
+use Rattle.std.proofs.Common.{◌≡◌, ◌∙◌, ◌<◌, List, Result, Ok, Err, [], length, get_or, ap, sym, subst, arith}
 use Rattle.std.proofs.lemmas.Result.{err_from_is_err_and}
 use Rattle.cj_base.specs.Limits.{plain_limits}
 use Rattle.cj_io.specs.Faults.{Rose}
@@ -13,7 +13,7 @@ use Rattle.cj_inputs.specs.declared.input_files.Entry.{Entry}
 use Rattle.cj_inputs.specs.Alone.{plain_tracks, readings_alone}
 use Rattle.cj_inputs.specs.Cases.{within_objects}
 use Rattle.cj_inputs.specs.Errors.{input_status}
-use Rattle.cj_inputs.specs.InputFiles.{inputs_of}
+use Rattle.cj_inputs.specs.InputFiles.{PlainApart, inputs_of, none_apart}
 use Rattle.cj_inputs.specs.Readings.{Reads}
 use Rattle.cj_inputs.proofs.AloneLemmas.{lone_entries, lone_entries_fail}
 use Rattle.cj_inputs.proofs.BatchLemmas.{reads_wider}
@@ -50,13 +50,14 @@ returns-in_err-entries g c =
     let thinning = plain_thinning c.args.thinning.now in
     let limits = plain_limits c.args.limits in
     let s = c.in_err-entries.field-0.0 in
-    let due = within_objects limits.objects (inputs_of thinning.suffix None c.deref.result.now) in
+    let due = within_objects limits.objects (inputs_of thinning.suffix none_apart c.deref.result.now) in
+    let ended = subst (λ (apart : PlainApart). Stops ⊥ s (within_objects limits.objects (inputs_of thinning.suffix apart c.deref.result.now))) c.none.ensures c.in_err-entries.ensures.told in
     let p = err_from_is_err_and c.from_residual-in_err-entries.result c.from_residual-in_err-entries.ensures.1 in
     rw (p.1, p.2) (record {
       between = c.in_err-entries.ensures.between;
-      read = λ is. absurd (stops_unread s due c.in_err-entries.ensures.told is);
+      read = λ is. absurd (stops_unread s due ended is);
       told = λ files told.
-          lone_entries_fail _ limits files thinning c.deref.result.now s (c.deref.ensures.value ∙ c.in_ok-names.ensures.told files told) c.in_err-entries.ensures.told;
+          lone_entries_fail _ limits files thinning c.deref.result.now s (c.deref.ensures.value ∙ c.in_ok-names.ensures.told files told) ended;
       files = c.names.ensures.files;
       later = c.names.ensures.later;
     })
@@ -67,6 +68,7 @@ returns-in_err-lone g c =
     let thinning = plain_thinning c.args.thinning.now in
     let limits = plain_limits c.args.limits in
     let entries = c.in_ok-entries.entries.items in
+    let listed = subst (λ (apart : PlainApart). within_objects limits.objects (inputs_of thinning.suffix apart c.deref.result.now) ≡ Ok entries) c.none.ensures c.in_ok-entries.ensures.told in
     let first = g.F.Folder.faults c.args.folder.now in
     let last = g.F.Folder.faults c.names.new.self in
     let now = g.F.Folder.faults c.read_each.new.folder in
@@ -77,7 +79,7 @@ returns-in_err-lone g c =
       between = comes_between why;
       read = λ is. since (folder_failed why c.in_err-lone.ensures.fault is);
       told = λ files told.
-          let asked = lone_entries limits files thinning c.deref.result.now entries (c.deref.ensures.value ∙ c.in_ok-names.ensures.told files told) c.in_ok-entries.ensures.told in
+          let asked = lone_entries limits files thinning c.deref.result.now entries (c.deref.ensures.value ∙ c.in_ok-names.ensures.told files told) listed in
           let due = readings_alone thinning.as_hermite3 limits.nodes files [] entries in
           let read = subst (λ (some : List Entry). Reads (Rose last now) plain_tracks (Err why) (readings_alone thinning.as_hermite3 limits.nodes files [] some))
           c.deref-4.ensures.value (c.in_err-lone.ensures.told files (c.names.ensures.files ∙ told)) in
@@ -92,11 +94,12 @@ returns g c =
     let thinning = plain_thinning c.args.thinning.now in
     let limits = plain_limits c.args.limits in
     let entries = c.in_ok-entries.entries.items in
+    let listed = subst (λ (apart : PlainApart). within_objects limits.objects (inputs_of thinning.suffix apart c.deref.result.now) ≡ Ok entries) c.none.ensures c.in_ok-entries.ensures.told in
     record {
       between = tt;
       read = ok_not_err;
       told = λ files told.
-          lone_entries limits files thinning c.deref.result.now entries (c.deref.ensures.value ∙ c.in_ok-names.ensures.told files told) c.in_ok-entries.ensures.told
+          lone_entries limits files thinning c.deref.result.now entries (c.deref.ensures.value ∙ c.in_ok-names.ensures.told files told) listed
           ∙ subst (λ (some : List Entry). readings_alone thinning.as_hermite3 limits.nodes files [] some ≡ Ok (plain_tracks c.in_ok-lone.lone))
           c.deref-4.ensures.value (c.in_ok-lone.ensures.told files (c.names.ensures.files ∙ told));
       files = c.read_each.ensures.files ∙ c.names.ensures.files;

@@ -1,5 +1,7 @@
-use Rattle.std.proofs.Common.{arith, ◌≡◌, ◌≤◌, length}
+use Rattle.std.proofs.Common.{arith, ◌≡◌, ◌∙◌, ◌≤◌, ap, length}
 use Rattle.std.proofs.lemmas.Result.{err_from_is_err_and}
+use Rattle.cj_inputs.specs.InputFiles.{PlainApart}
+use Rattle.cj_inputs.specs.Updates.{base_of}
 use Rattle.cj_inputs.proofs.StepLemmas.{few_enough, too_many}
 use Rattle.cj_inputs.proofs.preparing_updates.list_few_base.Goals as goal
 
@@ -14,11 +16,12 @@ returns-in_err-entries c =
 pub returns-then-len-settings : goal.returns-then-len-settings
 returns-then-len-settings c =
     let entries = c.in_ok-entries.entries.items in
+    let listed = c.in_ok-entries.ensures.value ∙ ap (λ (apart : PlainApart). base_of c.args.settings.now.suffix.now c.args.update.now apart c.args.names.now) c.of.ensures in
     let same : c.len-then-len-settings.result ≡ length entries = omega (arith, c.len-then-len-settings.ensures, c.in_ok-entries.entries.ok.0) in
     rw (c.too_many_objects.ensures, same)
     (record {
       between = tt;
-      told = too_many c.args.settings.now.limits.objects entries _ c.in_ok-entries.ensures.value (omega (arith, c.len.ensures, c.in_ok-entries.entries.ok.0, c.if-len-settings.true));
+      told = too_many c.args.settings.now.limits.objects entries _ listed (omega (arith, c.len.ensures, c.in_ok-entries.entries.ok.0, c.if-len-settings.true));
       few = tt;
       numbers = tt;
     })
@@ -26,6 +29,7 @@ returns-then-len-settings c =
 pub returns : goal.returns
 returns c =
     let entries = c.in_ok-entries.entries.items in
+    let listed = c.in_ok-entries.ensures.value ∙ ap (λ (apart : PlainApart). base_of c.args.settings.now.suffix.now c.args.update.now apart c.args.names.now) c.of.ensures in
     let limits = c.args.settings.now.limits in
     let few : length entries ≤ limits.objects = omega (arith, c.len.ensures, c.if-len-settings.false, c.in_ok-entries.entries.ok.0) in
-    record { between = tt; told = few_enough c.args.settings.now.limits.objects entries _ c.in_ok-entries.ensures.value few; few = omega (arith, few, limits.most_objects); numbers = c.in_ok-entries.ensures.numbers }
+    record { between = tt; told = few_enough c.args.settings.now.limits.objects entries _ listed few; few = omega (arith, few, limits.most_objects); numbers = c.in_ok-entries.ensures.numbers }

@@ -1,11 +1,12 @@
-use Rattle.std.proofs.Common.{arith, ◌<◌, refl, subst, ap, List, length, get_or}
+use Rattle.std.proofs.Common.{arith, ◌∙◌, ◌<◌, refl, subst, ap, List, length, get_or}
 use Rattle.std.proofs.lemmas.Result.{err_from_is_err_and}
 use Rattle.cj_io.specs.Faults.{Rose}
 use Rattle.cj_words.specs.Settings.{plain_settings}
 use Rattle.cj_status.specs.Steps.{Gives}
 use Rattle.cj_inputs.specs.declared.input_files.Entry.{Entry}
 use Rattle.cj_inputs.specs.Cases.{within_objects}
-use Rattle.cj_inputs.specs.Updates.{base_of, plain_updated, read_as}
+use Rattle.cj_inputs.specs.InputFiles.{PlainApart, apart_of}
+use Rattle.cj_inputs.specs.Updates.{base_of, plain_updated, read_as, updates_of}
 use Rattle.cj_inputs.proofs.StepLemmas.{stops_unread}
 use Rattle.cj_inputs.proofs.UpdateCaseLemmas.{base_unlisted, both_listed}
 use Rattle.cj_inputs.proofs.preparing_updates.read_listed.Goals as goal
@@ -16,7 +17,7 @@ returns-in_err-entries g c =
     let update = c.args.update.now in
     let names = c.args.names.now in
     let s = c.in_err-entries.field-0.0 in
-    let due = within_objects asked.limits.objects (base_of asked.suffix update asked.sizes names) in
+    let due = within_objects asked.limits.objects (base_of asked.suffix update (apart_of asked) names) in
     let p = err_from_is_err_and c.from_residual.result c.from_residual.ensures.1 in
     rw (p.1, p.2)
     (record {
@@ -59,7 +60,8 @@ returns g c =
       between = read.between;
       read = read.read;
       told = λ files told known.
-          let due = both_listed files asked update c.args.names.now entries updates known c.in_ok-entries.ensures.told c.in_ok-updates.ensures.value in
+          let last = c.in_ok-updates.ensures.value ∙ ap (λ (apart : PlainApart). updates_of asked.suffix update apart c.args.names.now) c.of-2.ensures in
+          let due = both_listed files asked update c.args.names.now entries updates known c.in_ok-entries.ensures.told last in
           let gives = subst (λ (es : List Entry). Gives rose plain_updated c.read_updated.result (read_as files asked update es c.deref-3.result.now)) c.deref-2.ensures.value (read.told files told) in
           rw due (subst (λ (es : List Entry). Gives rose plain_updated c.read_updated.result (read_as files asked update entries es)) c.deref-3.ensures.value gives);
       count = read.count;

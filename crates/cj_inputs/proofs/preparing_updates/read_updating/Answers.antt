@@ -1,26 +1,26 @@
-use Rattle.std.proofs.Common.{arith, ◌∙◌, subst, ap, List, Vec, Global, Err}
+use Rattle.std.proofs.Common.{arith, ◌∙◌, subst, sym, ap, ap₂, List, map, Result, Err}
 use Rattle.std.proofs.lemmas.Result.{err_from_is_err_and}
 use Rattle.cj_io.specs.Faults.{Rose}
 use Rattle.cj_io.proofs.FileLemmas.{rose_since}
-use Rattle.cj_sizes.specs.Sizes.{Size, sizes_of}
-use Rattle.cj_sizes.specs.declared.size_line.SizeLine.{SizeLine}
 use Rattle.cj_words.specs.Commands.{plain_rescreening}
+use Rattle.cj_track.specs.Tracks.{plain_track}
+use Rattle.cj_track.specs.declared.track.Track.{Track}
 use Rattle.cj_words.specs.Settings.{plain_settings}
+use Rattle.cj_status.specs.declared.status.Status.{Status}
 use Rattle.cj_status.specs.Steps.{Gives}
+use Rattle.cj_inputs.specs.ObjectAttributes.{PlainAttributes, attributes_asked, plain_attributes}
+use Rattle.cj_inputs.specs.Readings.{Reads}
 use Rattle.cj_inputs.specs.Updates.{both_within, cases_asked, cases_of_run, plain_updated, plain_updating}
 use Rattle.cj_inputs.proofs.EndLemmas.{same_cause}
 use Rattle.cj_inputs.proofs.StepLemmas.{comes_between, folder_failed, gives_unread, gives_wider}
-use Rattle.cj_inputs.proofs.UpdateCaseLemmas.{cases_of_sizes, cases_unread, cases_unsized}
+use Rattle.cj_inputs.proofs.UpdateCaseLemmas.{cases_of_attributes, cases_unread, cases_unsaid}
 use Rattle.cj_inputs.proofs.preparing_updates.read_updating.Goals as goal
 
-abbrev lines_of : Vec SizeLine Global → List Size
-lines_of lines = sizes_of lines.items
+pub read_attributes-requires-clause-many : goal.read_attributes-requires-clause-many
+read_attributes-requires-clause-many g c = c.requires.many
 
-pub read_size_lines-requires-clause-many : goal.read_size_lines-requires-clause-many
-read_size_lines-requires-clause-many g c = c.requires.many
-
-pub read_size_lines-requires-clause-count : goal.read_size_lines-requires-clause-count
-read_size_lines-requires-clause-count g c = c.read_listed.ensures.count ∙ c.requires.count
+pub read_attributes-requires-clause-count : goal.read_attributes-requires-clause-count
+read_attributes-requires-clause-count g c = c.read_listed.ensures.count ∙ c.requires.count
 
 pub returns-in_err-tracks : goal.returns-in_err-tracks
 returns-in_err-tracks g c =
@@ -37,24 +37,26 @@ returns-in_err-tracks g c =
       later = c.read_listed.ensures.later;
     })
 
-pub returns-in_err-lines : goal.returns-in_err-lines
-returns-in_err-lines g c =
+pub returns-in_err-said : goal.returns-in_err-said
+returns-in_err-said g c =
     let first = g.F.Folder.faults c.args.folder.now in
     let before = g.F.Folder.faults c.read_listed.new.folder in
-    let now = g.F.Folder.faults c.read_size_lines.new.folder in
+    let now = g.F.Folder.faults c.read_attributes.new.folder in
     let since = rose_since first before now c.read_listed.ensures.later in
-    let why = c.in_err-lines.field-0.0 in
-    let p = err_from_is_err_and c.from_residual-in_err-lines.result c.from_residual-in_err-lines.ensures.1 in
+    let why = c.in_err-said.field-0.0 in
+    let p = err_from_is_err_and c.from_residual-in_err-said.result c.from_residual-in_err-said.ensures.1 in
     rw (p.1, p.2)
     (record {
       between = comes_between why;
-      read = λ is. since (folder_failed why c.in_err-lines.ensures.fault is);
+      read = λ is. since (folder_failed why c.in_err-said.ensures.fault is);
       told = λ files told known.
-          cases_unsized (Rose before now) (Rose first now) lines_of files (plain_rescreening c.args.rescreening.now) (plain_updated c.in_ok-tracks.tracks) why since
-          (c.in_ok-tracks.ensures.told files told known) (c.in_err-lines.ensures.told files (c.read_listed.ensures.files ∙ told) known);
-      count = c.read_size_lines.ensures.count ∙ c.read_listed.ensures.count;
-      files = c.read_size_lines.ensures.files ∙ c.read_listed.ensures.files;
-      later = omega (arith, c.read_size_lines.ensures.later, c.read_listed.ensures.later);
+          cases_unsaid (Rose before now) (Rose first now) plain_attributes files (plain_rescreening c.args.rescreening.now) (plain_updated c.in_ok-tracks.tracks) why since
+          (c.in_ok-tracks.ensures.told files told known) (subst (λ (due : Result PlainAttributes Status). Reads (Rose before now) plain_attributes (Err why) due)
+          (ap₂ (λ (some others : List Track). attributes_asked (map plain_track some) (map plain_track others) files (plain_settings c.args.rescreening.now.screening.settings)) c.deref.ensures.value c.deref-2.ensures.value)
+          (c.in_err-said.ensures.told files (c.read_listed.ensures.files ∙ told) known));
+      count = c.read_attributes.ensures.count ∙ c.read_listed.ensures.count;
+      files = c.read_attributes.ensures.files ∙ c.read_listed.ensures.files;
+      later = omega (arith, c.read_attributes.ensures.later, c.read_listed.ensures.later);
     })
 
 pub returns : goal.returns
@@ -62,18 +64,19 @@ returns g c =
     let rescreening = c.args.rescreening.now in
     let asked = plain_settings rescreening.screening.settings in
     let tracks = plain_updated c.in_ok-tracks.tracks in
+    let said = plain_attributes c.in_ok-said.said in
     let made = c.updating_of.result in
-    let due = both_within asked.limits.object_slots (cases_of_run asked tracks (lines_of c.in_ok-lines.lines)) in
-    let gives = subst (λ (lines : List SizeLine). Gives ⊥ plain_updating made (both_within asked.limits.object_slots (cases_of_run asked tracks (sizes_of lines))))
-    c.deref.ensures.value c.updating_of.ensures.told in
+    let due = both_within asked.limits.object_slots (cases_of_run asked tracks said) in
+    let gives : Gives ⊥ plain_updating made due = c.updating_of.ensures.told in
     record {
       between = c.updating_of.ensures.between;
       read = λ is. absurd (gives_unread plain_updating made due gives is);
       told = λ files told known.
-          let is = cases_of_sizes files (plain_rescreening rescreening) tracks (lines_of c.in_ok-lines.lines) (c.in_ok-tracks.ensures.told files told known)
-          (c.in_ok-lines.ensures.told files (c.read_listed.ensures.files ∙ told) known) in
+          let is = cases_of_attributes files (plain_rescreening rescreening) tracks said (c.in_ok-tracks.ensures.told files told known)
+          (sym (ap₂ (λ (some others : List Track). attributes_asked (map plain_track some) (map plain_track others) files (plain_settings c.args.rescreening.now.screening.settings)) c.deref.ensures.value c.deref-2.ensures.value)
+          ∙ c.in_ok-said.ensures.told files (c.read_listed.ensures.files ∙ told) known) in
           gives_wider ⊥ _ plain_updating made (cases_asked files (plain_rescreening rescreening)) (λ none. absurd none) (rw is gives);
-      count = c.read_size_lines.ensures.count ∙ c.read_listed.ensures.count;
-      files = c.read_size_lines.ensures.files ∙ c.read_listed.ensures.files;
-      later = omega (arith, c.read_size_lines.ensures.later, c.read_listed.ensures.later);
+      count = c.read_attributes.ensures.count ∙ c.read_listed.ensures.count;
+      files = c.read_attributes.ensures.files ∙ c.read_listed.ensures.files;
+      later = omega (arith, c.read_attributes.ensures.later, c.read_listed.ensures.later);
     }

@@ -23,12 +23,12 @@ one_each case c shells are listed =
 
 -- the pairs that the listed shells keep
 pairs_listed : (case : PlainProblem) (c : PlainCertificate) (sizes : List ℕ) (shells : List (Option Shell)) (kept : List Pair) → sizes ≡ case.sizes → shells ≡ shells_listed c
-    → length shells ≡ length case.tracks → map objects_of kept ≡ filter (keeps_between case.threshold sizes shells) (pairs_of (length shells)) → map objects_of kept ≡ pairs_by_shells case c
+    → length shells ≡ length case.tracks → map objects_of kept ≡ filter (keeps_between case.primaries case.threshold sizes shells) (pairs_of (length shells)) → map objects_of kept ≡ pairs_by_shells case c
 pairs_listed case c sizes shells kept sized listed many value =
     value
-    ∙ ap (λ (n : ℕ). filter (keeps_between case.threshold sizes shells) (pairs_of n)) many
-    ∙ ap (λ (ss : List ℕ). filter (keeps_between case.threshold ss shells) (pairs_of (length case.tracks))) sized
-    ∙ ap (λ (ss : List (Option Shell)). filter (keeps_between case.threshold case.sizes ss) (pairs_of (length case.tracks))) listed
+    ∙ ap (λ (n : ℕ). filter (keeps_between case.primaries case.threshold sizes shells) (pairs_of n)) many
+    ∙ ap (λ (ss : List ℕ). filter (keeps_between case.primaries case.threshold ss shells) (pairs_of (length case.tracks))) sized
+    ∙ ap (λ (ss : List (Option Shell)). filter (keeps_between case.primaries case.threshold case.sizes ss) (pairs_of (length case.tracks))) listed
 
 pub kept_pairs-requires-clause-few : goal.kept_pairs-requires-clause-few
 kept_pairs-requires-clause-few c =

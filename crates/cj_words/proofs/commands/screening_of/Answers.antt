@@ -1,11 +1,11 @@
 use Rattle.std.proofs.Common.{Bool, Ok, Result, sym, ap, ◌∙◌, arith}
-use Rattle.std.specs.Prelude.{codes}
+use Rattle.std.specs.Prelude.{◌||◌, codes}
 use Rattle.std.specs.Option.{option_copied}
 use Rattle.cj_base.specs.declared.limits.Limits.{Limits}
 use Rattle.cj_words.specs.Commands.{PlainScreening, screening_of}
 use Rattle.cj_words.specs.Options.{given_of, is_given, listed, value_of}
 use Rattle.cj_words.specs.Settings.{format_or, number_or, originator_or, plain_settings}
-use Rattle.cj_words.specs.declared.option.Opt.TheVariants.{CertVersion, Brief, Large}
+use Rattle.cj_words.specs.declared.option.Opt.TheVariants.{CertVersion, Brief, Large, Primaries}
 use Rattle.cj_words.specs.declared.option.UsageFault.{UsageFault}
 use Rattle.cj_words.proofs.FormatLemmas.{in_brief}
 use Rattle.cj_words.proofs.commands.screening_of.Goals as goal
@@ -46,6 +46,6 @@ invariant_of-result c =
       most_workers = workers.most;
       some_cells = cells.some;
       most_cells = omega (arith, cells.most, ap (λ (limits : Limits). limits.leaves) settings.ensures.limits);
-      in_brief = λ large. in_brief (is_given Brief given) (is_given Large given) (option_copied c.value_of-3.result) c.in-Some-format_or.format
-          (sym unsized.ensures.large ∙ sym settings.ensures.large ∙ large) format;
+      in_brief = λ large. in_brief (is_given Brief given) (is_given Large given || is_given Primaries given) (option_copied c.value_of-3.result) c.in-Some-format_or.format
+          (ap (λ (b : Bool). b || is_given Primaries given) (sym unsized.ensures.large ∙ sym settings.ensures.large ∙ large)) format;
     }
