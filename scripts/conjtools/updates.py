@@ -17,20 +17,25 @@ REPORT_TITLE, CHANGED_TITLE = "CONJ-REPORT 1\n", "CONJ-CHANGED 1\n"
 
 @dataclass(frozen=True)
 class Names:
-    """How the names of ephemerides end, and how those of their updates go on behind that; the file of sizes is neither."""
+    """How the names of ephemerides end, and how those of their updates go on behind that; the files of sizes and of primaries are neither."""
 
     suffix: str = SUFFIX
     update: str = UPDATE
     sizes: str | None = None
+    primaries: str | None = None
+
+    def is_beside(self, name: str) -> bool:
+        """Whether a file of this name tells something of objects."""
+        return name in (self.sizes, self.primaries)
 
     def updated(self, name: str) -> str | None:
         """The name that a file of this name updates, if it is an update."""
         stem = name.removesuffix(self.update)
-        return stem if stem != name and stem.endswith(self.suffix) and name != self.sizes else None
+        return stem if stem != name and stem.endswith(self.suffix) and not self.is_beside(name) else None
 
     def is_base(self, name: str) -> bool:
         """Whether a file of this name is an ephemeris that is no update."""
-        return name.endswith(self.suffix) and name != self.sizes and self.updated(name) is None
+        return name.endswith(self.suffix) and not self.is_beside(name) and self.updated(name) is None
 
 
 def make_updated(folder: Path, place: Path, names: Names) -> None:

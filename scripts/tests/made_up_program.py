@@ -1,7 +1,7 @@
 #!/usr/bin/python3
 """Stands in for `conj` where the workflow is tested and not the program: it reads the same folders by the same words, finds no encounter,
-and its certificate says of each object what it is in the window, by which its check decides. Its reports tell what objects cover where they are asked
-to, and a check has to be asked for the same. It has a fault where a file asks for one.
+and its certificate says of each object what it is in the window, by which its check decides. Its reports tell what objects cover, and which are
+primaries, where they are asked to, and a check has to be asked for the same. It has a fault where a file asks for one.
 
 `FAULTS` names a folder. A file `COMMAND-FIRST` in it, as `screen-2025-01-01T00:10:00.000000`, has the fault of the run with this window:
 the signal by which it ends, or text that it says as it ends with status 5. The file is taken away, so that the next run is well.
@@ -60,6 +60,21 @@ def spans_of(path: Path, window: Window) -> tuple[tuple[int, int], ...]:
     return tuple(covered(useable(path.read_text("ascii")), window.first, window.last))
 
 
+def with_primaries(objects: tuple[ReportObject, ...], file: str, names: list[str]) -> tuple[ReportObject, ...]:
+    """The objects, those that a file names as primaries."""
+    known = {one.designator for one in objects}
+    for number, name in enumerate(names, 1):
+        if name not in known:
+            refuse(f"{file}: line {number}: Primaries Unknown")
+    return tuple(replace(one, primary=one.designator in names) for one in objects)
+
+
+def pairs_told(objects: tuple[ReportObject, ...]) -> int:
+    """How many pairs are looked at: all, or where some objects are primaries those with one of them."""
+    count, others = len(objects), sum(not one.primary for one in objects)
+    return (count * (count - 1) - (others * (others - 1) if others < count else 0)) // 2
+
+
 def fault(command: str, window: Window) -> None:
     """Ends as the folder of faults asks."""
     path = Path(os.environ.get("FAULTS", "/nowhere")) / f"{command}-{epoch_text(window.first)}"
@@ -78,10 +93,12 @@ def main(words: list[str]) -> int:
     command, folder, *rest = words
     options = dict(word[2:].partition("=")[::2] for word in rest)
     window = Window(read_epoch(options["from"]), read_epoch(options["to"]))
-    files = [read_file(path) for path in sorted(Path(folder).glob("*.oem"))]
+    files = [read_file(path) for path in sorted(Path(folder).glob("*.oem")) if path.name != options.get("primaries")]
     fault(command, window)
     text = certificate(window, [rows for _, rows in files])
     objects = tuple(one for one, _ in files)
+    if "primaries" in options:
+        objects = with_primaries(objects, options["primaries"], (Path(folder) / options["primaries"]).read_text("ascii").splitlines())
     if "coverage" in options:
         objects = tuple(replace(one, covered=spans_of(Path(folder) / one.file, window)) for one in objects)
     report = Report(window, 5 * 10**12, objects, ()).text()
@@ -96,8 +113,7 @@ def main(words: list[str]) -> int:
     out.mkdir()
     (out / "screen.report").write_text(report, "ascii")
     (out / "screen.cert").write_text(text, "ascii")
-    count = len(files)
-    print(f"OBJECTS {count}\nPAIRS {count * (count - 1) // 2}\n" + "".join(f"{word} 0\n" for word in COUNTS), end="")
+    print(f"OBJECTS {len(files)}\nPAIRS {pairs_told(objects)}\n" + "".join(f"{word} 0\n" for word in COUNTS), end="")
     if "coverage" in options:
         print(f"UNCOVERED {sum(bool(left_out(list(one.covered or ()), window.first, window.last)) for one in objects)}")
     return 0

@@ -167,6 +167,20 @@ class Whole(JoinCase):
         self.assertEqual(Path("whole/screen.report").read_bytes().decode(), report(at(0), at("179.999999"), whole, sizes))
         self.assertEqual(sorted(path.name for path in Path("whole").glob("*.cdm")), ["000002.cdm"])
 
+    def test_primaries_stay_and_are_those_of_each_part(self) -> None:
+        """The first and the third object, of which each pair has one."""
+        self.write_three()
+        wanted = report(at(0), at(180), WHOLE_TOLD)
+        for name in ("SAT A", "SAT C"):
+            for part in ("p1", "p2", "p3"):
+                self.change(f"{part}/screen.report", f"NAME {name}\n", f"NAME {name}\nPRIMARY\n")
+            wanted = wanted.replace(f"NAME {name}\n", f"NAME {name}\nPRIMARY\n")
+        self.assertEqual(self.join("p1", "p2", "p3").returncode, 0)
+        self.assertEqual(Path("whole/screen.report").read_bytes().decode(), wanted)
+        shutil.rmtree("whole")
+        self.change("p3/screen.report", "NAME SAT C\nPRIMARY\n", "NAME SAT C\n")
+        self.refused("p1", "p2", "p3", line="p3/screen.report: line 13: PRIMARY of object 3 is not that in p1/screen.report")
+
     def test_same_distance_is_decided_by_the_ephemerides(self) -> None:
         shutil.rmtree("files")
         write_drifting(Path("files"))

@@ -93,6 +93,15 @@ class Program(FolderCase):
         self.assertGreater(encounters, 50)
         self.assertGreater(at_borders, 5)
 
+    def test_primaries(self) -> None:
+        (self.folder / "files").mkdir()
+        self.conj("generate", "files", "--objects", "120", "--minutes", "20", "--seed", "7")
+        (self.folder / "files" / "fleet.txt").write_text("".join(f"GEN-{number:05}\n" for number in range(5, 121, 10)), "ascii")
+        encounters, at_borders = self.compare([at(0), at(180), at(660)], at(1200), ("--threshold", "700000", "--primaries", "fleet.txt"))
+        self.assertGreater(encounters, 20)
+        self.assertGreater(at_borders, 2)
+        self.assertEqual((self.folder / "joined" / "screen.report").read_bytes().count(b"\nPRIMARY\n"), 12)
+
     def test_what_objects_cover(self) -> None:
         """Five objects at rest beside each other, over a border at each minute: one that covers all by two segments that meet there; one with a gap
         of a tick at the first border; one that ends a tick before the second, with nothing in the third part; one of a single tick; one of none."""

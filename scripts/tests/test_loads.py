@@ -25,8 +25,8 @@ else:
 SMALL = {
     "line_ends": 400_000, "long_comments": 4000, "late_fault": 4000, "matrices_alone": 4000, "many_nodes": 250, "small_files": 5, "nodes_outside": 250,
     "long_numbers": 4000, "long_epochs": 4000, "sizes_alone": 800, "crowded_folder": 7, "updated_files": 5, "crowded_updates": 7,
-    "many_matrices": 6000, "long_object_name": 1000, "resting_together": 5, "thin_objects": 5, "fast_objects": 5, "close_nodes": 50, "short_spans": 6,
-    "together_for_a_tick": 4, "long_file_names": 3, "at_the_threshold": 90, "near_misses": 20, "touching_everywhere": 5, "many_cells": 30,
+    "many_matrices": 6000, "long_object_name": 1000, "resting_together": 5, "thin_objects": 5, "few_primaries": 70, "fast_objects": 5, "close_nodes": 50,
+    "short_spans": 6, "together_for_a_tick": 4, "long_file_names": 3, "at_the_threshold": 90, "near_misses": 20, "touching_everywhere": 5, "many_cells": 30,
     "thin_boxes": 5, "one_long_line": 3_000_000, "short_lines": 4000, "cells_of_one_pair": 20, "many_sizes": 20,
 }  # fmt: skip
 KM = 10**12
@@ -163,6 +163,14 @@ class Ephemerides(LoadCase):
         states = [track.segments[0].states for track in self.tracks(approaches.thin_objects)]
         (apart,) = (axis for axis in range(3) if all(len(set(state[:, axis].tolist())) == 1 for state in states) and len({int(s[0, axis]) for s in states}) > 1)
         self.assertEqual(sorted(int(state[0, apart]) for state in states), [20 * KM * rank for rank in range(5)])
+
+    def test_few_primaries(self) -> None:
+        """As many of them as are few, each an object, and no two the same; all of fewer objects."""
+        for size, count in ((70, 64), (5, 5)):
+            folder = self.made(approaches.few_primaries, size, where=str(size))
+            named = (folder / approaches.FLEET).read_text("ascii").split()
+            self.assertEqual((len(named), len(set(named))), (count, count))
+            self.assertLessEqual(set(named), {read_oem(path.name, path.read_bytes()).designator for path in folder.glob("*.oem")})
 
     def test_rates_at_the_limit(self) -> None:
         for track in self.tracks(approaches.fast_objects):

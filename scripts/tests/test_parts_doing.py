@@ -113,6 +113,23 @@ class Survey(PartsCase):
         other.chmod(0o755)
         self.assertTrue(set(self.names(program=str(other))).isdisjoint(names))
 
+    def test_primaries_touch_all(self) -> None:
+        """Another file that says the same touches nothing; the file of primaries is no ephemeris, whatever its name."""
+        fleet = self.files / "fleet.oem"
+        options = {"primaries": fleet.name}
+        fleet.write_text("2099-001A\n", "ascii")
+        names = self.names(options=options)
+        self.assertEqual(list(self.stamps()), ["demo-01.oem", "demo-02.oem", "demo-03.oem", fleet.name])
+        fleet.write_text("2099-002A\n2099-001A\n", "ascii")
+        both = self.names(options=options)
+        self.assertTrue(set(both).isdisjoint(names))
+        fleet.write_text("2099-001A\n2099-002A\n", "ascii")
+        self.assertEqual(self.names(options=options), both)
+        fleet.write_text("2099-001A\n2099-009A\n", "ascii")
+        self.refused("ended with status 3: conj: fleet.oem: line 2: Primaries Unknown", lambda: self.surveyed(options=options))
+        fleet.unlink()
+        self.assertTrue(set(self.names()).isdisjoint(names + both))
+
     def test_files_that_are_refused(self) -> None:
         self.change("CENTER_NAME = EARTH", "CENTER_NAME = MOON")
         self.refused("ended with status 3: conj: demo-02.oem: line", self.surveyed)
@@ -145,16 +162,18 @@ class Survey(PartsCase):
 
 class Stamps(PartsCase):
     def test_each_change_is_seen(self) -> None:
-        before = stamps_of(self.files, ".oem", "sizes.txt")
+        beside = {"sizes.txt", "fleet.txt"}
+        before = stamps_of(self.files, ".oem", beside)
         self.assertEqual(list(before), ["demo-01.oem", "demo-02.oem", "demo-03.oem"])
         path = self.files / "demo-02.oem"
         content = path.read_bytes()
         path.write_bytes(content)
         os.utime(path, ns=(before[path.name][1], before[path.name][1]))
-        self.refused("ephemerides changed since then: demo-02.oem;", check_same, before, stamps_of(self.files, ".oem", None), "since then")
-        (self.files / "sizes.txt").touch()
+        self.refused("ephemerides changed since then: demo-02.oem;", check_same, before, stamps_of(self.files, ".oem", ()), "since then")
+        for name in beside:
+            (self.files / name).touch()
         path.unlink()
-        self.refused("demo-02.oem and 1 more;", check_same, before, stamps_of(self.files, ".oem", "sizes.txt"), "since")
+        self.refused("demo-02.oem and 2 more;", check_same, before, stamps_of(self.files, ".oem", beside), "since")
         check_same(before, dict(before), "since")
 
     def test_waits_until_the_last_change_is_a_while_ago(self) -> None:

@@ -57,7 +57,7 @@ class Configuration(unittest.TestCase):
     def test_left_out(self) -> None:
         settings = self.read()
         self.assertEqual(settings.window, Window(MIDNIGHT, MIDNIGHT + 86_400_000_000))
-        self.assertEqual((settings.part_minutes, settings.suffix, settings.sizes, settings.program), (1440, ".oem", None, "conj"))
+        self.assertEqual((settings.part_minutes, settings.suffix, settings.beside, settings.program), (1440, ".oem", frozenset(), "conj"))
         self.assertEqual((settings.screen_words(), settings.check_words()), ([], []))
 
     def test_options_of_both_commands_and_of_screen_alone(self) -> None:
@@ -65,7 +65,13 @@ class Configuration(unittest.TestCase):
         settings = self.read(options=told)
         self.assertEqual(settings.screen_words(), ["--as-hermite3", "--originator=ME", "--sizes=-s.txt", "--threshold=300"])
         self.assertEqual(settings.check_words(), ["--as-hermite3", "--sizes=-s.txt", "--threshold=300"])
-        self.assertEqual(settings.sizes, "-s.txt")
+        self.assertEqual(settings.beside, {"-s.txt"})
+
+    def test_a_check_is_asked_for_the_same_primaries(self) -> None:
+        settings = self.read(options={"primaries": "fleet.txt", "sizes": "sizes.txt", "rtn": True})
+        self.assertEqual(settings.screen_words(), ["--primaries=fleet.txt", "--rtn", "--sizes=sizes.txt"])
+        self.assertEqual(settings.check_words(), ["--primaries=fleet.txt", "--sizes=sizes.txt"])
+        self.assertEqual(settings.beside, {"fleet.txt", "sizes.txt"})
 
     def test_a_check_is_asked_what_objects_cover_and_not_that_they_have_to(self) -> None:
         settings = self.read(options={"coverage": True, "must-cover": True})
@@ -73,10 +79,11 @@ class Configuration(unittest.TestCase):
         self.assertEqual(settings.check_words(), ["--coverage"])
 
     def test_options_are_those_of_the_documents(self) -> None:
-        """Each option of docs/FORMATS.md that screen has and a configuration does not set otherwise; those to come are known too."""
+        """Each option of docs/FORMATS.md that screen has and a configuration does not set otherwise."""
         self.assertEqual(
             set(OPTIONS),
-            {"threshold", "sizes", "suffix", "as-hermite3", "originator", "cells", "cert-version", "rtn", "coverage", "must-cover"} | {"large", "brief"},
+            {"threshold", "sizes", "primaries", "suffix", "as-hermite3", "large", "brief", "originator", "cells", "cert-version", "rtn"}
+            | {"coverage", "must-cover"},
         )
 
     def test_epochs_without_quotes(self) -> None:

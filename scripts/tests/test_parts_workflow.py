@@ -109,6 +109,32 @@ class Workflow(FolderCase):
         self.assertEqual((joined / "screen.report").read_bytes(), (self.folder / "one" / "screen.report").read_bytes())
         self.assertEqual((joined / "summary.txt").read_bytes().splitlines()[-1], one.stdout.splitlines()[-1])
 
+    def test_primaries_in_both_parts(self) -> None:
+        """A check is asked for the same primaries as the screening."""
+        self.hold_primaries(str(PROGRAM))
+
+    @unittest.skipUnless(os.environ.get("CONJ_PROGRAM"), "CONJ_PROGRAM names no program")
+    def test_primaries_by_the_program(self) -> None:
+        program = os.path.abspath(os.environ["CONJ_PROGRAM"])
+        joined = self.hold_primaries(program)
+        words = [program, "screen", str(self.files), "--from", "2025-01-01T00:00:00", "--to", "2025-01-01T00:30:00", "--primaries", "fleet.txt", "--out", "one"]
+        subprocess.run(words, cwd=self.folder, capture_output=True, check=True)
+        self.assertEqual((joined / "screen.report").read_bytes(), (self.folder / "one" / "screen.report").read_bytes())
+
+    def hold_primaries(self, program: str) -> Path:
+        """Runs the workflow over three objects of which the second is a primary, holds what is told of it, and gives the folder of the joined report."""
+        shutil.copy(SAMPLES / "catalogue" / "demo-03.oem", self.files)
+        (self.files / "fleet.txt").write_text("2099-002A\n", "ascii")
+        self.configure(options={"primaries": "fleet.txt"}, program=program)
+        run = self.run_workflow()
+        self.assertEqual(run.returncode, 0, run.stderr)
+        whole = self.folder / "results" / "latest"
+        text = (whole / "joined" / "screen.report").read_text("ascii")
+        self.assertEqual((text.count("\nPRIMARY\n"), text.count("\nID 2099-002A\nNAME DEMO 02\nPRIMARY\n")), (1, 1))
+        self.assertTrue((whole / "joined" / "summary.txt").read_text("ascii").startswith("OBJECTS 3\nPAIRS 2\n"))
+        self.assertIn('name="primary"', (whole / "screen.html").read_text("utf-8"))
+        return (whole / "joined").resolve()
+
     def hold_covering(self, program: str) -> Path:
         """Runs the workflow with `coverage`, holds what it tells of the first object, and gives the folder of the joined report."""
         path = self.files / "demo-01.oem"

@@ -64,7 +64,7 @@ def standing_files(folder: Path, names: Names, with_updates: bool) -> dict[str, 
     """The ephemerides of a folder by their names; where files may be updates, those that then stand."""
     contents = {path.name: path.read_bytes() for path in folder.iterdir() if path.is_file()}
     if not with_updates:
-        return {name: content for name, content in contents.items() if name.endswith(names.suffix) and name != names.sizes}
+        return {name: content for name, content in contents.items() if name.endswith(names.suffix) and not names.is_beside(name)}
     standing = {name: content for name, content in contents.items() if names.is_base(name)}
     for name, content in contents.items():
         updated = names.updated(name)

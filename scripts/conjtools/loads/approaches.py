@@ -10,6 +10,9 @@ from conjtools.loads.texts import HEADER, KM, MINUTE, MM, SECOND, THRESHOLD, Pla
 from conjtools.loads.texts import slots_for, times, triple
 
 FASTEST = 20 * KM
+# So many primaries are gone through one by one, each with all other objects.
+FEW = 64
+FLEET = "fleet.txt"
 
 
 def resting_together(folder: Path, seed: int, size: int) -> None:
@@ -27,7 +30,18 @@ def resting_together(folder: Path, seed: int, size: int) -> None:
 
 def thin_objects(folder: Path, seed: int, size: int) -> None:
     """So many objects that swing along one axis, 800,000 km each hour, 20 km apart on another: their boxes are long in each slot and never touch."""
+    put_thin(folder, random.Random(seed), size)
+
+
+def few_primaries(folder: Path, seed: int, size: int) -> None:
+    """The same, and a file that names as many of them as primaries as are few."""
     draw = random.Random(seed)
+    put_thin(folder, draw, size)
+    put(folder, FLEET, "".join(f"THIN-{number}\n" for number in draw.sample(range(size), min(FEW, size))))
+
+
+def put_thin(folder: Path, draw: random.Random, size: int) -> None:
+    """Writes so many objects that swing along one axis."""
     long, apart, _ = draw.sample(range(3), 3)
     last = (slots_for(size) - 1) * MINUTE
     for number, rank in enumerate(draw.sample(range(size), size)):
@@ -37,7 +51,7 @@ def thin_objects(folder: Path, seed: int, size: int) -> None:
             place[long] = (400_000 if hour % 2 else -400_000) * KM
             place[apart] = 20 * KM * rank
             rows.append(node(time, place))
-        put(folder, f"{number:04}.oem", HEADER + metadata(f"THIN {number}", 0, last) + "".join(rows))
+        put(folder, f"{number:04}.oem", HEADER + metadata(f"THIN {number}", 0, last, f"THIN-{number}") + "".join(rows))
 
 
 def fast_objects(folder: Path, seed: int, size: int) -> None:

@@ -10,9 +10,12 @@ from dataclasses import dataclass
 from pathlib import Path
 
 from conjtools.loads.approaches import (
+    FEW,
+    FLEET,
     at_the_threshold,
     close_nodes,
     fast_objects,
+    few_primaries,
     long_file_names,
     near_misses,
     resting_together,
@@ -165,6 +168,7 @@ ALL_UPDATED = Run("rescreen", A_MINUTE, lambda folder, size: Due(0, "", (f"PAIRS
 AT_7000_KM = f"SHELL 1 {7000 * KM} {7000 * KM}"
 ALL_PARTED = Run("screen", (), lambda folder, size: Due(0, "", (f"PAIRS {pairs(size)}", f"PARTED {pairs(size)}")), (1, 4, 16))
 ALL_PASS = Run("screen", (), lambda folder, size: Due(0, "", (f"PAIRS {pairs(size)}", "MESSAGES 0")))
+FEW_PASS = Run("screen", ("--primaries", FLEET), lambda folder, size: Due(0, "", (f"PAIRS {pairs(size) - pairs(max(0, size - FEW))}", "TOUCHING 0")), (1, 4))
 ALL_NEAR = Run("screen", (), lambda folder, size: Due(0, "", (f"ENCOUNTERS {pairs(size)}", f"NEAR {pairs(size)}")))
 ALL_TOLD = Run("screen", (), lambda folder, size: Due(0, "", (f"ENCOUNTERS {pairs(size)}", f"MESSAGES {pairs(size)}")))
 ALL_SHORT = Run("screen", (), lambda folder, size: Due(0, "", (f"ENCOUNTERS {size}", "FAR 0", "MESSAGES 0")))
@@ -202,6 +206,7 @@ LOADS = (
     # approaches
     Load(resting_together, 2_000, (TOO_MANY_CELLS, MORE_THAN_ONE_CELL, LARGE_TOO_MANY_CELLS), Bound(80, 4, places, "boxes of all slots, and then a refusal")),
     Load(thin_objects, 2_000, (screens("TOUCHING 0", "FAR 0"),), Bound(120, 4, places, "hulls of all slots, and a sweep where few meet")),
+    Load(few_primaries, 2_000, (FEW_PASS,), Bound(120, 4, places, "hulls of all slots, and in each the pairs of so many objects")),
     Load(fast_objects, 400, (ALL_PASS,), Bound(150, 4, places, "a box stands in up to 64 buckets in each slot")),
     Load(close_nodes, 300_000, (screens("ENCOUNTERS 1", "FAR 0", "MESSAGES 0"),), Bound(40, 4, lambda size: size * (2 * NODE + LEAF), "a leaf a tick")),
     Load(short_spans, 40_000, (ALL_SHORT,), Bound(20, 4, lambda size: size * (4 * NODE + LEAF + ENCOUNTER), "an encounter a segment")),

@@ -61,7 +61,7 @@ def window_words(part: Part) -> list[str]:
 def check_stamps(plan: Plan, stamps: Mapping[str, Stamp], when: str) -> None:
     """RunFault where the ephemerides are not those of the survey."""
     settings = plan.settings
-    check_same(stamps, stamps_of(Path(settings.folder), settings.suffix, settings.sizes), when)
+    check_same(stamps, stamps_of(Path(settings.folder), settings.suffix, settings.beside), when)
 
 
 def screen(plan: Plan, stamps: Mapping[str, Stamp], part: Part, threads: int) -> bool:

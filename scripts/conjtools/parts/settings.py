@@ -33,6 +33,7 @@ class Option(Enum):
 OPTIONS = {
     "threshold": Option.VALUE,
     "sizes": Option.VALUE,
+    "primaries": Option.VALUE,
     "suffix": Option.VALUE,
     "as-hermite3": Option.FLAG,
     "large": Option.FLAG,
@@ -44,6 +45,8 @@ OPTIONS = {
     "coverage": Option.FLAG,
     "must-cover": Option.SCREEN_FLAG,
 }
+# Options whose values are names of files that tell something of objects and are no ephemerides.
+FILES_BESIDE = ("sizes", "primaries")
 KEYS = ("folder", "from", "to", "part_minutes", "options", "results", "page", "threads", "memory_mb", "retries", "program")
 
 
@@ -70,9 +73,9 @@ class Settings:
         return dict(self.options).get("suffix", DEFAULT_SUFFIX)
 
     @property
-    def sizes(self) -> str | None:
-        """The name of the file of sizes, if one is read."""
-        return dict(self.options).get("sizes")
+    def beside(self) -> frozenset[str]:
+        """The names of the files that are read beside the ephemerides."""
+        return files_beside(self.options)
 
     def screen_words(self) -> list[str]:
         """The options of the program's command `screen`."""
@@ -81,6 +84,11 @@ class Settings:
     def check_words(self) -> list[str]:
         """The options of the program's command `check`, by which it asks for the same case."""
         return words_of(tuple((name, value) for name, value in self.options if OPTIONS[name] in (Option.VALUE, Option.FLAG)))
+
+
+def files_beside(options: tuple[tuple[str, str], ...]) -> frozenset[str]:
+    """The names of the files, by these options, that tell the sizes of objects and which are primaries."""
+    return frozenset(value for name, value in options if name in FILES_BESIDE)
 
 
 def words_of(options: tuple[tuple[str, str], ...]) -> list[str]:

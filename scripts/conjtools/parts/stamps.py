@@ -9,7 +9,7 @@ from __future__ import annotations
 
 import os
 import time
-from collections.abc import Callable, Mapping
+from collections.abc import Callable, Collection, Mapping
 from pathlib import Path
 
 from conjtools.faults import RunFault
@@ -21,19 +21,19 @@ SETTLED_SECONDS = 2.0
 PATIENCE_SECONDS = 60.0
 
 
-def names_of(folder: Path, suffix: str, sizes: str | None) -> list[str]:
-    """The files of a folder that the program reads, in byte order of names: the ephemerides, and that of the sizes."""
+def names_of(folder: Path, suffix: str, beside: Collection[str]) -> list[str]:
+    """The files of a folder that the program reads, in byte order of names: the ephemerides, and those with the names beside."""
     try:
         names = os.listdir(folder)
     except OSError as error:
         raise RunFault(f"{folder}: {error.strerror}") from None
-    return sorted((name for name in names if name.endswith(suffix) or name == sizes), key=os.fsencode)
+    return sorted((name for name in names if name.endswith(suffix) or name in beside), key=os.fsencode)
 
 
-def stamps_of(folder: Path, suffix: str, sizes: str | None) -> dict[str, Stamp]:
+def stamps_of(folder: Path, suffix: str, beside: Collection[str]) -> dict[str, Stamp]:
     """The stamp of each file that the program reads."""
     stamps: dict[str, Stamp] = {}
-    for name in names_of(folder, suffix, sizes):
+    for name in names_of(folder, suffix, beside):
         try:
             told = os.stat(folder / name)
         except OSError as error:

@@ -33,15 +33,15 @@ def survey(settings: Settings, told: Mapping[str, object], threads: int) -> None
     results, folder = Path(settings.results), Path(settings.folder)
     program = program_checksum(settings.program)
     results.mkdir(parents=True, exist_ok=True)
-    stamps = settled(partial(stamps_of, folder, settings.suffix, settings.sizes))
+    stamps = settled(partial(stamps_of, folder, settings.suffix, settings.beside))
     report = taken(settings, threads)
     windows = parts_of(settings.window, settings.part_minutes)
-    names = [name for name in stamps if name != settings.sizes]
+    names = [name for name in stamps if name not in settings.beside]
     if names != [one.file for one in report.objects]:
         raise RunFault(f"{folder}: the program took other files than those whose names end with {settings.suffix}")
     task = digest_of(FORM.encode(), program.encode(), json.dumps(settings.screen_words()).encode(), report_objects(report))
     keys, prepared = keys_of(folder, names, windows, task, threads)
-    check_same(stamps, stamps_of(folder, settings.suffix, settings.sizes), "during the survey")
+    check_same(stamps, stamps_of(folder, settings.suffix, settings.beside), "during the survey")
     digits = max(4, len(str(len(windows))))
     parts = tuple(Part(f"{place:0{digits}}-{key}", window) for place, (key, window) in enumerate(zip(keys, windows), 1))
     whole = digest_of(*(part.name.encode() for part in parts), prepared.encode()).hex()[:KEY_DIGITS]

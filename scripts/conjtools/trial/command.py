@@ -20,7 +20,7 @@ from conjtools.command import Parser, run
 from conjtools.epochs import epoch_text
 from conjtools.faults import RunFault, UsageFault
 from conjtools.parts.program import program_checksum
-from conjtools.parts.settings import DEFAULT_SUFFIX, OPTIONS, Option, words_of
+from conjtools.parts.settings import DEFAULT_SUFFIX, OPTIONS, Option, files_beside, words_of
 from conjtools.report import read_report
 from conjtools.trial.cluster import NODE_MEMORY, bring_up, missing_programs, take_down
 from conjtools.trial.daemons import TOKEN_FILE, WORD, end_strays, token_of
@@ -157,8 +157,8 @@ def task_of(words: argparse.Namespace, place: Path, program: Path) -> Task:
     if words.folder is not None:
         if not words.folder.is_dir():
             raise UsageFault(f"{words.folder}: no such folder")
-        suffix, sizes = dict(options).get("suffix", DEFAULT_SUFFIX), dict(options).get("sizes")
-        shutil.copytree(words.folder, folder, ignore=lambda _, names: [name for name in names if not name.endswith(suffix) and name != sizes])
+        suffix, beside = dict(options).get("suffix", DEFAULT_SUFFIX), files_beside(options)
+        shutil.copytree(words.folder, folder, ignore=lambda _, names: [name for name in names if not name.endswith(suffix) and name not in beside])
         return Task(folder, words.first, words.last, options)
     if words.first or words.last or words.options:
         raise UsageFault("--from, --to and --option want --folder")
