@@ -23,9 +23,6 @@ is_same-self (Some p) h = and_from (eqb p.0 p.0) (eqb p.1 p.1) (eq-eqb p.0 p.0 r
 
 -- ---- what the runs of n ticks from m on hold
 
-pub runs_from : (ℕ → Option (ℕ × ℕ)) → ℕ → ℕ → List Run
-runs_from label m n = runs_over label (range_with_len m n)
-
 -- a run of ticks with one label, from lo on and before hi
 pub record IsRun (label : ℕ → Option (ℕ × ℕ)) (lo hi : ℕ) (r : Run) : Type 0 where
   pub from : lo ≤ r.first

@@ -3,12 +3,10 @@ use Rattle.std.proofs.Common.{◌≡◌, ℕ, ◌*◌, arith, refl, sym, subst, 
 use Rattle.std.proofs.lemmas.Int.{ints}
 use Rattle.std.specs.Prelude.{ℤ, pos, ◌-ℤ◌, ◌*ℤ◌, ◌≤ℤ◌, ◌<ℤ◌, ◌-◌}
 use Rattle.cj_interval.specs.Spans.{IsIn}
-use Rattle.cj_interval.specs.declared.span.Span.{Span}
 use Rattle.cj_interval.proofs.IntegerLemmas.{mul-le_right}
 use Rattle.cj_interval.proofs.RingLemmas.{ring, var, ◌:*◌, ◌:-◌, from}
-use Rattle.cj_hermite.specs.Interpolant.{Four, Curve, place_denominator}
-use Rattle.cj_hermite.specs.Distance.{IsWithinAt, offset, square_bound, square_distance}
-use Rattle.cj_hermite.specs.Boxes.{HoldsAxis}
+use Rattle.cj_hermite.specs.Interpolant.{Curve}
+use Rattle.cj_hermite.specs.Distance.{IsWithinAt, square_bound, square_distance}
 
 below : (x y : ℤ) → x <ℤ y → y ≤ℤ x → ⊥
 below x y h k = omega (arith, ints)
@@ -40,8 +38,3 @@ apart_one al ah p bl bh p' q q' h k =
 
     minus' : (x z p p' q r : ℤ) → (p *ℤ r) ≤ℤ x → z ≤ℤ (p' *ℤ q) → (r *ℤ p -ℤ q *ℤ p') ≤ℤ (x -ℤ z)
     minus' x z p p' q r h k = omega (arith, ints)
-
--- the difference of the places of two axes at tick m, from spans that hold them
-pub offset_in : (k k' : Four) (s t s' t' m : ℕ) (a b : Span) → HoldsAxis k t (m - s) a → HoldsAxis k' t' (m - s') b
-    → IsIn ((a.lo -ℤ b.hi) *ℤ pos (place_denominator t * place_denominator t')) ((a.hi -ℤ b.lo) *ℤ pos (place_denominator t * place_denominator t')) (offset s t k s' t' k' m)
-offset_in k k' s t s' t' m a b h j = apart_one a.lo a.hi _ b.lo b.hi _ (place_denominator t) (place_denominator t') h.place j.place

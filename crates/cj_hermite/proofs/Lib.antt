@@ -22,3 +22,4 @@ pub mod SpanLemmas
 pub mod StateLemmas
 pub mod TrackLemmas
 pub mod WalkLemmas
+pub mod WholeLemmas

@@ -93,13 +93,6 @@ curve_exists case object m some = go (is_at case object m)
     go (there e number x of is) = ap is_some (curve_there case object m e number x of is)
     go (nowhere unnumbered none) = let no_number : is_some (number_at case object m) ≡ false = ap is_some unnumbered in absurd cc
 
-number_exists : (case : PlainProblem) (object m : ℕ) (c : Curve) → curve_at case object m ≡ Some c → is_some (number_at case object m) ≡ true
-number_exists case object m c h = go (is_at case object m)
-  where
-    go : IsAt case object m → is_some (number_at case object m) ≡ true
-    go (there e number x of is) = ap is_some (number_there case object m e number x of is)
-    go (nowhere unnumbered none) = absurd cc
-
 -- of two objects that both have a state both have a number
 pub numbers_exist : (case : PlainProblem) (a b m : ℕ) → OfObjectsAt case a b m (λ c d. Unit {0}) → (is_some (number_at case a m) ≡ true) × (is_some (number_at case b m) ≡ true)
 unfolding number_at

@@ -1,15 +1,15 @@
 -- A walk through two tracks from one common run to the next.
-use Rattle.std.proofs.Common.{◌≡◌, ℕ, suc, ◌+◌, ◌-◌, ◌<◌, ◌≤◌, min, max, true, false, List, [], ◌∷◌, Option, Some, None, refl, sym, ap, subst, ◌∙◌, inl, inr, arith}
+use Rattle.std.proofs.Common.{◌≡◌, ℕ, suc, ◌+◌, ◌-◌, ◌<◌, ◌≤◌, min, max, false, [], ◌∷◌, Option, Some, None, refl, sym, ap, subst, ◌∙◌, inl, inr, arith}
 use Rattle.std.specs.Prelude.{is_some}
 use Rattle.std.specs.List.{range_with_len}
 use Rattle.std.proofs.lemmas.Bool.{cases_lt, false_from_ne_true}
 use Rattle.cj_base.specs.declared.tick.Window.{Window}
 use Rattle.cj_track.specs.PlainTracks.{PlainTrack}
 use Rattle.cj_hermite.specs.Pieces.{piece_at}
-use Rattle.cj_hermite.specs.CommonRuns.{Run, is_same, runs_over, runs_between, both, both_numbers}
+use Rattle.cj_hermite.specs.CommonRuns.{is_same, runs_over, runs_between, both, both_numbers}
 use Rattle.cj_hermite.specs.Walks.{HasNone, IsNextRun}
-use Rattle.cj_hermite.proofs.CommonRunLemmas.{IsRun, AreRuns, runs_are, same_from_is_same, skipped, taken}
-use Rattle.cj_hermite.proofs.CurveLemmas.{same_numbers, numbers_of, some_both}
+use Rattle.cj_hermite.proofs.CommonRunLemmas.{same_from_is_same, skipped, taken}
+use Rattle.cj_hermite.proofs.CurveLemmas.{same_numbers, some_both}
 
 both_none : (i : Option ℕ) → both i None ≡ None
 both_none None = refl
@@ -94,21 +94,3 @@ module _ (e f : PlainTrack) (from last first end : ℕ) (x y : Window) (left : I
       (ap is_some here ∙ some_both (piece_at e x.last.micros) (piece_at f y.last.micros) left.some right.some)
       (λ k low' high. label_here k (omega arith) (omega arith) (omega arith) (omega arith) (omega arith) ∙ sym here)
       (λ more. apart is_end (omega arith) (label_here end (omega arith) (omega arith) (omega arith) (omega arith) (omega arith)))))
-
--- ---- the first of some runs
-
--- its ticks lie in the range and have one label
-pub first_run : (label : ℕ → Option (ℕ × ℕ)) (from last : ℕ) (r : Run) (rs : List Run) → runs_between label from last ≡ r ∷ rs → IsRun label from (last + 1) r
-unfolding runs_between
-first_run label from last r rs is = elim (cases_lt (last + 1) from) [
-  | inl past ↦
-      let n : last + 1 - from ≡ 0 = omega arith in
-      let none : runs_over label (range_with_len from (last + 1 - from)) ≡ [] = ap (λ (k : ℕ). runs_over label (range_with_len from k)) n in
-      absurd cc
-  | inr le ↦ (subst (AreRuns label from (last + 1)) is (runs_are label from (last + 1 - from) (last + 1) (omega arith))).0
-]
-
--- both have a state at its first tick
-pub states_of : (e f : PlainTrack) (from last : ℕ) (r : Run) (rs : List Run) → runs_between (both_numbers e f) from last ≡ r ∷ rs →
-    (is_some (piece_at e r.first) ≡ true) × (is_some (piece_at f r.first) ≡ true)
-states_of e f from last r rs is = numbers_of (piece_at e r.first) (piece_at f r.first) (first_run (both_numbers e f) from last r rs is).labelled

@@ -14,3 +14,4 @@ pub mod Roots
 pub mod Runs
 pub mod Searches
 pub mod Walks
+pub mod Whole

@@ -17,6 +17,7 @@ use Rattle.cj_case.specs.Slots.{slot_first, slot_last}
 use Rattle.cj_case.proofs.SlotLemmas.{slot_within}
 use Rattle.cj_hermite.specs.Roots.{roots_in, roots_in_slot}
 use Rattle.cj_hermite.proofs.RootLemmas.{IsRoot, IsRootOf, Each-between}
+use Rattle.cj_hermite.proofs.SlotRootLemmas.{pair_more, pairs_apart}
 use Rattle.cj_bezier.specs.Candidates.{candidate_pairs}
 use Rattle.cj_bezier.specs.RootLeaves.{is_far_throughout, told_of_root}
 use Rattle.cj_bezier.specs.RootLeaves.{leaves_of_root, leaves_of_roots, Describe}
@@ -131,6 +132,42 @@ are_roots case slot (pair ∷ pairs) exist =
 -- their roots are no more than the leaves of these
 pub fewer_with : (case : PlainProblem) (slot : ℕ) (pairs : List Pair) → Each (λ pair. pair.b < length case.tracks) pairs → length (roots_with case slot pairs) ≤ length (leaves_of_roots case (roots_with case slot pairs))
 fewer_with case slot pairs exist = fewer_roots case (roots_with case slot pairs) (are_roots case slot pairs exist)
+
+-- the roots of one pair
+pub one_pair : (case : PlainProblem) (slot : ℕ) (pair : Pair) → roots_in_slot case slot (objects_of pair ∷ []) ≡ roots_in case slot pair.a pair.b
+one_pair case slot pair = append-nil (roots_in case slot pair.a pair.b)
+
+-- what is more than the leaves of a root is more than those of a list of it alone
+pub one_root_leaves : (case : PlainProblem) (r : PlainCell) (limit before : ℕ) → limit < before + length (leaves_of_root case r) → limit < before + length (leaves_of_roots case (r ∷ []))
+unfolding leaves_of_roots
+one_root_leaves case r limit before many =
+    let same : length (leaves_of_roots case (r ∷ [])) ≡ length (leaves_of_root case r) = ap length (append-nil (leaves_of_root case r)) in
+    omega (arith, many, same)
+
+-- one pair more of a list
+pub next_pair_added : (case : PlainProblem) (slot i : ℕ) (pairs : List Pair) (pair : Pair) (old mid new : Slab) → i < length pairs → pair ≡ get_or pairs i pair
+    → AddRoots case (roots_with case slot (take i pairs)) old mid → AddRoots case (roots_in_slot case slot (objects_of pair ∷ [])) mid new → AddRoots case (roots_with case slot (take (i + 1) pairs)) old new
+next_pair_added case slot i pairs pair old mid new lt is some more =
+    let whole : roots_with case slot (take i pairs) ++ roots_in_slot case slot (objects_of pair ∷ []) ≡ roots_with case slot (take (i + 1) pairs) =
+    ap (λ (rs : List PlainCell). roots_with case slot (take i pairs) ++ rs) (one_pair case slot pair) ∙ sym (pair_more case slot i pairs pair lt is) in
+    subst (λ (rs : List PlainCell). AddRoots case rs old new) whole
+    (more_roots case (roots_with case slot (take i pairs)) (roots_in_slot case slot (objects_of pair ∷ [])) old mid new some more)
+
+-- the first pairs and the next have no more leaves than all
+pub upto_pair : (case : PlainProblem) (slot i : ℕ) (pairs : List Pair) (pair : Pair) → i < length pairs → pair ≡ get_or pairs i pair
+    → length (leaves_of_roots case (roots_with case slot (take i pairs))) + length (leaves_of_roots case (roots_in_slot case slot (objects_of pair ∷ [])))
+    ≤ length (leaves_of_roots case (roots_with case slot pairs))
+upto_pair case slot i pairs pair lt is =
+    let done = roots_with case slot (take i pairs) in
+    let next = roots_in case slot pair.a pair.b in
+    let rest = roots_with case slot (drop (i + 1) pairs) in
+    omega (
+      arith,
+      ap (λ (rs : List PlainCell). length (leaves_of_roots case rs)) (one_pair case slot pair),
+      ap (λ (rs : List PlainCell). length (leaves_of_roots case rs)) (pairs_apart case slot i pairs pair lt is),
+      number_both case done (next ++ rest),
+      number_both case next rest,
+    )
 
 with_both : (case : PlainProblem) (slot n : ℕ) (pairs : List Pair) → roots_with case slot pairs ≡ roots_with case slot (take n pairs) ++ roots_with case slot (drop n pairs)
 with_both case slot n pairs =

@@ -6,13 +6,15 @@ use Rattle.cj_case.specs.declared.kind.Kind.{Kind}
 use Rattle.cj_hermite.specs.Interpolant.{IsOver}
 use Rattle.cj_hermite.specs.ObjectsAtTicks.{curve_at}
 use Rattle.cj_hermite.specs.Ready.{curve_ready}
+use Rattle.cj_hermite.specs.Whole.{IsWhole}
 use Rattle.cj_bezier.specs.Halving.{closed}
 use Rattle.cj_bezier.specs.Hulls.{axes_of, hull_axes}
 use Rattle.cj_bezier.specs.RootLeaves.{leaves_of_root, Describe}
 use Rattle.cj_slabs.specs.declared.cutting.Cut.{Cut}
 
--- this is the object's interpolant at the first tick, it gives places over all of the ticks, and the hull is its own over them
+-- over the ticks the object is in one piece, this is its interpolant at the first, it gives places over all of them, and the hull is its own over them
 pub record IsCut (case : PlainProblem) (cut : Cut) : Type 0 where
+  pub whole : IsWhole case cut.object cut.first.micros cut.last.micros
   pub curve : curve_at case cut.object cut.first.micros ≡ Some (curve_ready cut.ready)
   pub over : IsOver (curve_ready cut.ready) cut.first.micros cut.last.micros
   pub hull : axes_of cut.hull.points ≡ hull_axes (curve_ready cut.ready) cut.first.micros cut.last.micros

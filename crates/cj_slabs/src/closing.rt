@@ -1,24 +1,31 @@
 //! The leaves of many roots of a problem, one after another.
-ghost use Rattle.std.specs.Prelude.{◌≡◌, ℕ, ◌+◌, ◌^◌, ◌<◌, ◌≤◌, is_some, true, IfOk, IfSome, OnOk, IsErrOf, Some, [], ◌∷◌, length, vec_len};
+ghost use Rattle.std.specs.Prelude.{◌≡◌, ℕ, ◌+◌, ◌^◌, ◌<◌, ◌≤◌, IfOk, IfSome, IsTrue, OnOk, IsErrOf, [], ◌∷◌, length, vec_len};
 ghost use Rattle.cj_case.specs.Cells.{plain_cell};
 ghost use Rattle.cj_case.specs.Leaves.{plain_leaf};
 ghost use Rattle.cj_case.specs.Problems.{plain_problem};
-ghost use Rattle.cj_hermite.specs.Interpolant.{Curve, IsOver, curve_of};
-ghost use Rattle.cj_hermite.specs.ObjectsAtTicks.{curve_at, number_at};
+ghost use Rattle.cj_hermite.specs.Interpolant.{Curve};
 ghost use Rattle.cj_hermite.specs.Roots.{KeepPieces};
-ghost use Rattle.cj_hermite.specs.declared.pieces.Piece.{Piece};
+ghost use Rattle.cj_hermite.specs.Whole.{IsWhole};
 ghost use Rattle.cj_bezier.specs.Hulls.{axes_of, hull_axes};
 ghost use Rattle.cj_bezier.specs.RootLeaves.{kind_between, leaves_of_root, Describe};
 ghost use Rattle.cj_cells.specs.Cells.{added_leaves};
 ghost use Rattle.cj_slabs.specs.Cuts.{IsClosedAs, IsCut};
 
-use crate::cutting::{Cut, cut_at};
-use cj_base::Tick;
+use crate::cutting::{Cut, cut_at, cut_over};
+use cj_base::{Tick, Window};
 use cj_bezier::{Hull, Verdict, gap, verdict};
-use cj_case::{Cell, Kind, Leaf, Problem};
+use cj_case::{Cell, Kind, Leaf, Pair, Problem};
 use cj_cells::{RefineError, refine};
+use cj_hermite::Hint;
 use std::alloc::{AllocError, Global};
 use std::marker::Model;
+
+/// When an object was looked at last, by a slot's first tick, and where it then was.
+#[derive(Clone, Copy, Default)]
+struct Look {
+    at: Option<Tick>,
+    hint: Hint,
+}
 
 /// Refines many cells of a problem in turn, for less where an object is over the same ticks as in its last cell: then its hull is there already. Its
 /// type keeps that what it has made are cuts of the problem.
@@ -27,6 +34,8 @@ pub struct Cuts<'p> {
     problem: &'p Problem,
     /// The last cut of each object.
     kept: Vec<Option<Cut>>,
+    /// The last look at each object.
+    looks: Vec<Look>,
 }
 
 impl<'p> Model for Cuts<'p> {
@@ -47,8 +56,66 @@ impl<'p> Cuts<'p> {
     pub fn new(alloc: Global, problem: &'p Problem) -> Result<Self, AllocError>
         ensures { IfOk result (λ cuts. cuts ≡ problem.now) }
     {
-        let kept = vec![in alloc; None; problem.tracks.as_slice().len()]?;
-        Ok(Cuts { problem, kept })
+        let objects = problem.tracks.as_slice().len();
+        let kept = vec![in alloc; None; objects]?;
+        let looks = vec![in alloc; Look::default(); objects]?;
+        Ok(Cuts {
+            problem,
+            kept,
+            looks,
+        })
+    }
+
+    /// Whether each object of a pair is at one piece over ticks of a slot.
+    pub fn are_whole(&mut self, pair: Pair, ticks: Window) -> bool
+        requires { ticks.first.micros ≤ ticks.last.micros }
+        ensures same { self.new ≡ self.old }
+        ensures whole { IsTrue result → KeepPieces (plain_problem self.old) pair.a pair.b ticks.first.micros ticks.last.micros }
+    {
+        self.is_whole(pair.a, ticks) && self.is_whole(pair.b, ticks)
+    }
+
+    /// Whether an object is at one piece over ticks of a slot. Its cut over them is then kept, unless that was made already and given up for another.
+    fn is_whole(&mut self, object: u32, ticks: Window) -> bool
+        requires { ticks.first.micros ≤ ticks.last.micros }
+        ensures same { self.new ≡ self.old }
+        ensures whole { IsTrue result → IsWhole (plain_problem self.old) object ticks.first.micros ticks.last.micros }
+    {
+        if self.has(object, ticks) {
+            return true;
+        }
+        self.look(object, ticks);
+        self.has(object, ticks)
+    }
+
+    /// Whether the last cut of an object is over these ticks.
+    fn has(&self, object: u32, ticks: Window) -> bool
+        ensures { IsTrue result → IsWhole (plain_problem self.now) object ticks.first.micros ticks.last.micros }
+    {
+        self.cut(object, ticks.first, ticks.last).is_some()
+    }
+
+    /// Makes the cut of an object over ticks of a slot, where it is at one piece at all of them. It looks once at a slot.
+    fn look(&mut self, object: u32, ticks: Window)
+        requires { ticks.first.micros ≤ ticks.last.micros }
+        ensures { self.new ≡ self.old }
+    {
+        let place = object as usize;
+        if place >= self.looks.len()
+            || place >= self.kept.len()
+            || self.looks[place].at == Some(ticks.first)
+        {
+            return;
+        }
+        let mut hint = self.looks[place].hint;
+        let cut = cut_over(self.problem, object, ticks, &mut hint);
+        self.looks[place] = Look {
+            at: Some(ticks.first),
+            hint,
+        };
+        if cut.is_some() {
+            self.kept[place] = cut;
+        }
     }
 
     /// Appends the leaves of a cell whose ticks have the same two pieces.
@@ -79,9 +146,7 @@ impl<'p> Cuts<'p> {
     /// Makes the cut of an object over ticks at which it is at one piece, where that is not its last one.
     fn keep(&mut self, object: u32, first: Tick, last: Tick)
         requires order { first.micros ≤ last.micros }
-        requires state { is_some (number_at (plain_problem self.old) object first.micros) ≡ true }
-        requires over { (piece : Piece) → curve_at (plain_problem self.old) object first.micros ≡ Some (curve_of piece)
-            → IsOver (curve_of piece) first.micros last.micros }
+        requires whole { IsWhole (plain_problem self.old) object first.micros last.micros }
         ensures { self.new ≡ self.old }
     {
         let place = object as usize;

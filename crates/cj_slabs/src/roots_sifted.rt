@@ -1,5 +1,5 @@
 //! Roots and their leaves: those of a root that is far throughout are counted alone, those of all others are told too.
-ghost use Rattle.std.specs.Prelude.{◌≡◌, ◌+◌, ◌<◌, ◌≤◌, ◌++◌, [], ◌∷◌, length, map, All, OnOk, IsErrOf};
+ghost use Rattle.std.specs.Prelude.{◌≡◌, ◌+◌, ◌<◌, ◌≤◌, ◌++◌, [], ◌∷◌, length, map, All, IfSome, OnOk, IsErrOf};
 ghost use Rattle.cj_case.specs.Cells.{plain_cell, plain_cells};
 ghost use Rattle.cj_case.specs.Leaves.{plain_leaves};
 ghost use Rattle.cj_case.specs.Pairs.{objects_of};
@@ -12,7 +12,7 @@ use crate::closing::Cuts;
 use crate::far_leaves::are_far;
 use crate::scratch::Scratch;
 use crate::slab::Slab;
-use cj_case::{Cell, Leaf, Pair, Problem};
+use cj_case::{Cell, Leaf, Pair, Problem, slot_window};
 use cj_cells::{RefineError, roots_of_slot};
 use std::alloc::{AllocError, Global};
 
@@ -74,8 +74,8 @@ fn sift_roots(
     Ok(())
 }
 
-/// The roots of pairs of existing objects in a slot.
-pub fn sift_pairs(
+/// The roots of pairs of existing objects in a slot, by a search for each.
+fn sift_searched(
     alloc: Global,
     problem: &Problem,
     slot: u32,
@@ -113,4 +113,83 @@ pub fn sift_pairs(
         &mut scratch.leaves,
         slab,
     )
+}
+
+/// The one root of a pair in a slot, where each of both objects is at one piece over all of the slot's ticks.
+fn whole_root(problem: &Problem, slot: u32, pair: Pair, cuts: &mut Cuts<'_>) -> Option<Cell>
+    requires { cuts.old ≡ problem.now }
+    ensures same { cuts.new ≡ cuts.old }
+    ensures root { IfSome result (λ root. roots_in_slot (plain_problem problem.now) slot (objects_of pair ∷ []) ≡ plain_cell root ∷ []) }
+    ensures pieces { IfSome result (λ root. KeepPieces (plain_problem problem.now) root.pair.a root.pair.b root.first.micros root.last.micros) }
+{
+    let ticks = slot_window(problem.window, slot)?;
+    if cuts.are_whole(pair, ticks) {
+        Some(Cell {
+            pair,
+            root: 0,
+            first: ticks.first,
+            last: ticks.last,
+        })
+    } else {
+        None
+    }
+}
+
+/// The roots of a pair of existing objects in a slot.
+fn sift_pair(
+    alloc: Global,
+    problem: &Problem,
+    slot: u32,
+    pair: Pair,
+    limit: u64,
+    scratch: &mut Scratch<'_>,
+    slab: &mut Slab,
+) -> Result<(), RefineError>
+    requires exists { pair.b < length problem.now.tracks }
+    requires cuts { scratch.old.cuts ≡ problem.now }
+    requires room { slab.old.counts.leaves ≤ limit }
+    ensures cuts { scratch.new.cuts ≡ scratch.old.cuts }
+    ensures added { OnOk result (AddRoots (plain_problem problem.now)
+        (roots_in_slot (plain_problem problem.now) slot (objects_of pair ∷ [])) slab.old slab.new) }
+    ensures within { OnOk result (slab.new.counts.leaves ≤ limit) }
+    ensures too_many { IsErrOf result RefineError.TooMany → limit < slab.old.counts.leaves
+        + length (leaves_of_roots (plain_problem problem.now) (roots_in_slot (plain_problem problem.now) slot (objects_of pair ∷ []))) }
+{
+    match whole_root(problem, slot, pair, &mut scratch.cuts) {
+        Some(root) => sift_root(
+            alloc,
+            &mut scratch.cuts,
+            root,
+            limit,
+            &mut scratch.leaves,
+            slab,
+        ),
+        None => sift_searched(alloc, problem, slot, &[pair], limit, scratch, slab),
+    }
+}
+
+/// The roots of pairs of existing objects in a slot.
+pub fn sift_pairs(
+    alloc: Global,
+    problem: &Problem,
+    slot: u32,
+    pairs: &[Pair],
+    limit: u64,
+    scratch: &mut Scratch<'_>,
+    slab: &mut Slab,
+) -> Result<(), RefineError>
+    requires exist { All (λ pair. pair.b < length problem.now.tracks) pairs.now }
+    requires cuts { scratch.old.cuts ≡ problem.now }
+    requires room { slab.old.counts.leaves ≤ limit }
+    ensures cuts { scratch.new.cuts ≡ scratch.old.cuts }
+    ensures added { OnOk result (AddRoots (plain_problem problem.now)
+        (roots_in_slot (plain_problem problem.now) slot (map objects_of pairs.now)) slab.old slab.new) }
+    ensures within { OnOk result (slab.new.counts.leaves ≤ limit) }
+    ensures too_many { IsErrOf result RefineError.TooMany → limit < slab.old.counts.leaves
+        + length (leaves_of_roots (plain_problem problem.now) (roots_in_slot (plain_problem problem.now) slot (map objects_of pairs.now))) }
+{
+    for pair in pairs {
+        sift_pair(alloc, problem, slot, *pair, limit, scratch, slab)?;
+    }
+    Ok(())
 }
