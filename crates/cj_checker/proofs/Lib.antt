@@ -1,3 +1,4 @@
+mod BesideLemmas
 mod BothLemmas
 mod BoundLemmas
 mod BoxLemmas

@@ -1,5 +1,5 @@
 -- How far the lines of boxes were read.
-use Rattle.std.specs.Prelude.{◌≡◌, ℕ, ◌+◌, ◌<◌, ◌≤◌, if◌then◌else◌, true, false, List, drop, get_or, length, map, Option, IfNone, IfSome}
+use Rattle.std.specs.Prelude.{◌≡◌, ℕ, ◌+◌, ◌<◌, ◌≤◌, if◌then◌else◌, true, false, List, drop, get_or, length, map, min, Option, IfNone, IfSome}
 use Rattle.std.specs.List.{enumerate_from}
 use Rattle.cj_track.specs.Tracks.{plain_track}
 use Rattle.cj_case.specs.declared.problem.Problem.{Problem}
@@ -36,7 +36,7 @@ pub record IsObjectRead (problem : Problem) (object : ℕ) (line : ShellLine) (b
   pub place : IfSome tried.more (λ more. more.passed ≤ length boxes)
   pub on : IfSome tried.more (IsReadOn (plain_problem problem) object (map plain_box_line boxes) (record { passed = tried.from; failed = false }))
 
--- each object was read by its line
+-- each object that has a line was read by it
 pub record AreObjectsRead (problem : Problem) (lines : List ShellLine) (boxes : List BoxLine) (tries : List ObjectRead) : Type 0 where
-  pub many : length tries ≡ length lines
-  pub each : (object : ℕ) (d : ObjectRead) (l : ShellLine) → object < length lines → IsObjectRead problem object (get_or lines object l) boxes (get_or tries object d)
+  pub many : length tries ≡ min (length lines) (length problem.tracks)
+  pub each : (object : ℕ) (d : ObjectRead) (l : ShellLine) → object < length tries → IsObjectRead problem object (get_or lines object l) boxes (get_or tries object d)

@@ -11,3 +11,4 @@ pub mod Answers
 pub mod Tiling
 pub mod Keys
 pub mod Sweeps
+pub mod Besides

@@ -3,6 +3,7 @@
 
 mod answer;
 mod axis;
+mod beside;
 mod bound;
 mod box_round;
 mod boxes;

@@ -32,7 +32,7 @@ impl Reaches {
 }
 
 /// Where a reach on an axis of space begins, moved back by a size.
-fn begin(least: i64, size: u64) -> i128
+pub(crate) fn begin(least: i64, size: u64) -> i128
     ensures value { result ≡ least -ℤ pos size }
     ensures near { IsWithin (2 ^ 70) result }
 {
@@ -40,7 +40,7 @@ fn begin(least: i64, size: u64) -> i128
 }
 
 /// Where a reach on an axis of space ends, moved on by a size and the threshold together.
-fn finish(most: i64, beyond: u64) -> i128
+pub(crate) fn finish(most: i64, beyond: u64) -> i128
     ensures value { result ≡ most +ℤ pos beyond }
     ensures near { IsWithin (2 ^ 70) result }
 {
@@ -180,15 +180,21 @@ pub(crate) fn begun_within<'r>(reach: &Reach, others: &'r [Reach]) -> &'r [Reach
     begun_before(reach, begun_behind(reach, others))
 }
 
-/// How many times one of some reaches in order begins where one of others is. Any number would do.
+/// From so many reaches on every sixteenth of them is asked how many it meets, for all.
+const MANY: usize = 4_096;
+
+/// How many times, or some such number, one of some reaches in order begins where one of others is. Any number would do.
 fn meetings(some: &[Reach], others: &[Reach]) -> usize
     requires { IsInOrder others.now }
 {
+    let step = if some.len() < MANY { 1 } else { 16 };
     let mut count = 0usize;
-    for reach in some {
-        count = count.saturating_add(begun_within(reach, others).len());
+    for number in 0..some.len() / step {
+        if let Some(reach) = some.get(number.saturating_mul(step)) {
+            count = count.saturating_add(begun_within(reach, others).len());
+        }
     }
-    count
+    count.saturating_mul(step)
 }
 
 /// How many pairs of some rows meet. Any number would do.

@@ -51,8 +51,10 @@ pub fn hull_failure<R: Threads + Sync>(
         failed: false,
     };
     for line in &cert.shells {
-        let tried = tries[object as usize];
-        let Some(more) = read_from(problem, object, line, &cert.boxes, read, tried) else {
+        let Some(tried) = tries.get(object as usize) else {
+            return Ok(failed(first + object, CheckCause::ShellOf));
+        };
+        let Some(more) = read_from(problem, object, line, &cert.boxes, read, *tried) else {
             return Ok(failed(first + object, CheckCause::ShellOf));
         };
         read = more;
@@ -84,7 +86,8 @@ fn read_alone(problem: &Problem, object: u32, line: &ShellLine, boxes: &[BoxLine
     ObjectRead { from, more }
 }
 
-/// The same of each object, by as many threads as there are workers: each takes the next object.
+/// The same of each object that has a line, by as many threads as there are workers: each takes the next object. A line behind the last
+/// object's is not tried, so that what is kept grows with the objects however many lines there are.
 fn try_objects<R: Threads + Sync>(
     rt: &R,
     alloc: Global,
@@ -99,7 +102,7 @@ fn try_objects<R: Threads + Sync>(
         requires { (object < length cert.now.shells.items) × (length cert.now.shells.items < 2 ^ 32) }
         ensures { (d : ShellLine) → IsObjectRead problem.entry.now object (get_or cert.entry.now.shells.items object d) cert.entry.now.boxes.items result }
     { read_alone(problem, object as u32, &cert.shells[object], &cert.boxes) };
-    let count = cert.shells.len();
+    let count = cert.shells.len().min(problem.tracks.as_slice().len());
     let tries = map_dealt(rt, alloc, count, workers as usize, &Nobody, &attempt)?;
     Ok(tries)
 }

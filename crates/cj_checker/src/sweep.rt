@@ -2,10 +2,12 @@
 ghost use Rattle.std.specs.Prelude.{◌≡◌, ℕ, ◌<◌, ◌≤◌, true, length, option_map, Some, IfSome, OnOk};
 ghost use Rattle.std.specs.List.{Contains};
 ghost use Rattle.cj_case.specs.Pairs.{AreBoth, ArePairsKept, HasPair, objects_of};
+ghost use Rattle.cj_checker.specs.Besides.{AreBeside};
 ghost use Rattle.cj_checker.specs.Keys.{looks};
 ghost use Rattle.cj_checker.specs.Sweeps.{AreCandidatesBy, AreMetBy, Exist, IsInOrder, StayCandidates};
 
 use crate::axis::Axis;
+use crate::beside::{Besides, are_apart, lay_beside};
 use crate::candidate::is_candidate;
 use crate::layout::Layout;
 use crate::reach::Reach;
@@ -75,11 +77,38 @@ fn append_pair(
     }
 }
 
+/// The same, without a look at the boxes of two objects that are apart along the axis that the sweep leaves out.
+fn append_near(
+    problem: &Problem,
+    shells: &[ShellLine],
+    boxes: &[Option<AxisBox>],
+    besides: &Besides,
+    one: u32,
+    other: u32,
+    pairs: &mut Vec<Pair>,
+) -> Result<(), AllocError>
+    requires one { one < length problem.now.tracks }
+    requires other { other < length problem.now.tracks }
+    requires shells { length shells.now ≡ length problem.now.tracks }
+    requires boxes { length boxes.now ≡ length problem.now.tracks }
+    requires besides { AreBeside problem.now boxes.now besides.now }
+    ensures candidate { OnOk result (StayCandidates problem.now shells.now boxes.now pairs.old.items pairs.new.items) }
+    ensures kept { OnOk result (ArePairsKept pairs.old.items pairs.new.items) }
+    ensures found { OnOk result ((a b : ℕ) → a < b → AreBoth one other a b → looks problem.now shells.now boxes.now (a, b) ≡ true
+        → HasPair pairs.new.items a b) }
+{
+    if are_apart(besides, one, other) {
+        return Ok(());
+    }
+    append_pair(problem, shells, boxes, one, other, pairs)
+}
+
 /// Appends the candidates among the pairs of an object with others.
 fn append_row(
     problem: &Problem,
     shells: &[ShellLine],
     boxes: &[Option<AxisBox>],
+    besides: &Besides,
     one: u32,
     others: &[Reach],
     pairs: &mut Vec<Pair>,
@@ -88,13 +117,14 @@ fn append_row(
     requires exist { Exist problem.now others.now }
     requires shells { length shells.now ≡ length problem.now.tracks }
     requires boxes { length boxes.now ≡ length problem.now.tracks }
+    requires besides { AreBeside problem.now boxes.now besides.now }
     ensures candidate { OnOk result (StayCandidates problem.now shells.now boxes.now pairs.old.items pairs.new.items) }
     ensures kept { OnOk result (ArePairsKept pairs.old.items pairs.new.items) }
     ensures found { OnOk result ((reach : Reach) → Contains others.now reach → (a b : ℕ) → a < b → AreBoth one reach.object a b
         → looks problem.now shells.now boxes.now (a, b) ≡ true → HasPair pairs.new.items a b) }
 {
     for other in others {
-        append_pair(problem, shells, boxes, one, other.object, pairs)?;
+        append_near(problem, shells, boxes, besides, one, other.object, pairs)?;
     }
     Ok(())
 }
@@ -104,6 +134,7 @@ fn append_met(
     problem: &Problem,
     shells: &[ShellLine],
     boxes: &[Option<AxisBox>],
+    besides: &Besides,
     some: &[Reach],
     others: &[Reach],
     pairs: &mut Vec<Pair>,
@@ -113,13 +144,14 @@ fn append_met(
     requires order { IsInOrder others.now }
     requires shells { length shells.now ≡ length problem.now.tracks }
     requires boxes { length boxes.now ≡ length problem.now.tracks }
+    requires besides { AreBeside problem.now boxes.now besides.now }
     ensures candidate { OnOk result (StayCandidates problem.now shells.now boxes.now pairs.old.items pairs.new.items) }
     ensures kept { OnOk result (ArePairsKept pairs.old.items pairs.new.items) }
     ensures found { OnOk result (AreMetBy problem.now shells.now boxes.now some.now others.now pairs.new.items) }
 {
     for reach in some {
         let met = begun_within(reach, others);
-        append_row(problem, shells, boxes, reach.object, met, pairs)?;
+        append_row(problem, shells, boxes, besides, reach.object, met, pairs)?;
     }
     Ok(())
 }
@@ -129,6 +161,7 @@ fn append_met(
 pub struct Sweep {
     layout: Layout,
     reaches: Reaches,
+    besides: Besides,
 }
 
 impl Sweep {
@@ -139,6 +172,7 @@ impl Sweep {
                 striped: true,
             },
             reaches: Reaches::new(alloc),
+            besides: Besides::new(alloc),
         }
     }
 
@@ -170,10 +204,12 @@ impl Sweep {
             &mut self.layout,
             &mut self.reaches,
         )?;
+        lay_beside(problem, boxes, self.layout.axis, &mut self.besides)?;
+        let besides = &self.besides;
         let (rows, others) = (self.reaches.rows.as_slice(), self.reaches.others.as_slice());
-        append_met(problem, shells, boxes, rows, rows, pairs)?;
-        append_met(problem, shells, boxes, rows, others, pairs)?;
-        append_met(problem, shells, boxes, others, rows, pairs)?;
+        append_met(problem, shells, boxes, besides, rows, rows, pairs)?;
+        append_met(problem, shells, boxes, besides, rows, others, pairs)?;
+        append_met(problem, shells, boxes, besides, others, rows, pairs)?;
         Ok(())
     }
 }

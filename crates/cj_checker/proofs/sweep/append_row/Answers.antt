@@ -19,7 +19,7 @@ pub loop-other-preserved : goal.loop-other-preserved
 loop-other-preserved c =
     let i = c.loop-other.invariant in
     let at = c.loop-other.other-index in
-    let told = c.in_ok-append_pair.ensures in
+    let told = c.in_ok-append_near.ensures in
     let case = plain_problem c.args.problem.now in
     let shells = map (λ (line : ShellLine). line.shell) c.args.shells.now in
     let areas = plain_boxes c.args.boxes.now in
@@ -27,7 +27,7 @@ loop-other-preserved c =
       candidate = λ all. told.candidate (i.candidate all);
       kept = λ a b has. told.kept a b (i.kept a b has);
       found = below_more (λ k. (reach : Reach) → get_or c.args.others.now k reach ≡ reach → (a b : ℕ) → a < b → AreBoth c.args.one reach.object a b
-          → candidate_with case shells areas (a, b) ≡ true → HasPair c.append_pair.new.pairs.items a b) at
+          → candidate_with case shells areas (a, b) ≡ true → HasPair c.append_near.new.pairs.items a b) at
           (λ k lt reach is a b up both candidate. told.kept a b (i.found k lt reach is a b up both candidate))
           (λ reach is a b up both candidate.
           told.found a b up (subst (λ (r : Reach). AreBoth c.args.one r.object a b) (sym (get_or_default c.args.others.now at _ reach (omega arith) ∙ is)) both) candidate);
