@@ -1,4 +1,5 @@
 mod CheckLemmas
+mod CutLemmas
 mod FarLemmas
 mod FirstLemmas
 mod OrderLemmas
@@ -7,3 +8,4 @@ mod ShownLemmas
 mod SlotLemmas
 mod StepLemmas
 mod ToldLemmas
+mod VerdictLemmas

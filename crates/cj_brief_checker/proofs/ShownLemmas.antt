@@ -1,5 +1,5 @@
 -- The lines of shells against the tracks, row by row.
-use Rattle.std.proofs.Common.{◌≡◌, ℕ, suc, ◌+◌, ◌<◌, ◌≤◌, Bool, true, false, ◌&&◌, List, [], ◌∷◌, ◌++◌, drop, get_or, length, map, Option, Some, None, refl, sym, ap, ◌∙◌, arith, append-nil, append_assoc}
+use Rattle.std.proofs.Common.{◌≡◌, ℕ, zero, suc, ◌+◌, ◌<◌, ◌≤◌, Bool, true, false, ◌&&◌, List, [], ◌∷◌, ◌++◌, drop, get_or, length, map, Option, Some, None, refl, sym, ap, take, ◌∙◌, arith, append-nil, append_assoc}
 use Rattle.std.specs.Prelude.{◌==◌, if◌then◌else◌, option_and_then, option_map, slice_get}
 use Rattle.std.specs.List.{enumerate_from}
 use Rattle.std.proofs.lemmas.List.FromFn.{length-enumerate_from}
@@ -9,16 +9,19 @@ use Rattle.cj_track.specs.PlainTracks.{PlainTrack}
 use Rattle.cj_case.specs.PlainProblems.{PlainProblem}
 use Rattle.cj_case.specs.Slots.{slot_count}
 use Rattle.cj_case.specs.Boxes.{PlainBox}
+use Rattle.cj_formats.specs.declared.check_cause.CheckCause.{CheckCause}
 use Rattle.cj_formats.specs.declared.check_cause.CheckCause.TheVariants.{ShellOf}
 use Rattle.cj_bezier.specs.AllBoxes.{boxes_of, boxes_over}
 use Rattle.cj_bezier.proofs.AllBoxLemmas.{row_length}
 use Rattle.cj_cert.specs.declared.cert_lines.ShellLine.{ShellLine}
 use Rattle.cj_checker.specs.declared.row.Row.{Row}
-use Rattle.cj_checker.specs.First.{failed, fits_at}
+use Rattle.cj_checker.specs.First.{failed, first_unfit, fits_at, Failure}
 use Rattle.cj_checker.specs.Rows.{plain_row, row_at, row_of}
 use Rattle.cj_checker.specs.Tests.{is_shell_line, is_shell_over}
 use Rattle.cj_checker.proofs.UnfitLemmas.{dropped, ended, fits_none, fits_some, unfit_done, unfit_from, unfit_more, unfit_now, unfit_short, unnumbered}
-use Rattle.cj_brief_checker.specs.Shown.{first_unfit_shell, rows_from}
+use Rattle.cj_brief_checker.specs.Shown.{AreShown, first_unfit_shell, rows_from}
+use Rattle.cj_brief_checker.specs.declared.shown.Shown.{Shown}
+use Rattle.cj_brief_checker.specs.declared.shown.Shown.TheVariants.{Boxes, Fails}
 
 -- ---- rows that are made one by one
 
@@ -203,3 +206,27 @@ row_long case k row at = go (slice_get case.tracks k) (sym (slice_get-map over c
     go (Some e) is =
         let same : over e ≡ row = cc in
         sym (ap length same) ∙ row_length e case.first case.last (slots case)
+
+-- ---- lines behind the last object
+
+unfit_take : {A B : Type 0} (fits : A → B → Bool) (cause : CheckCause) (line n : ℕ) (xs : List A) (ys : List B) → length xs < n
+    → first_unfit fits cause line xs (take n ys) ≡ first_unfit fits cause line xs ys
+unfolding first_unfit
+unfit_take fits cause line zero xs ys lt = absurd (omega (arith, lt))
+unfit_take fits cause line (suc n) [] [] lt = refl
+unfit_take fits cause line (suc n) [] (y ∷ ys) lt = refl
+unfit_take fits cause line (suc n) (x ∷ xs) [] lt = refl
+unfit_take fits cause line (suc n) (x ∷ xs) (y ∷ ys) lt =
+    ap (λ (t : Option Failure). if fits x y then t else failed line cause) (unfit_take fits cause (line + 1) n xs ys (omega (arith, lt)))
+
+-- the first line behind the last object fails, whatever is behind it
+pub shown_of_some : (case : PlainProblem) (first n : ℕ) (lines : List ShellLine) → n ≡ length case.tracks + 1
+    → first_unfit_shell case first (take n lines) ≡ first_unfit_shell case first lines
+shown_of_some case first n lines is =
+    unfit_take (is_shell_line case.first case.last) ShellOf first n (enumerate_from 0 case.tracks) lines (omega (arith, is, length-enumerate_from 0 case.tracks))
+
+-- what some lines show is what all show
+pub shown_by_some : (case : PlainProblem) (first : ℕ) (some all : List ShellLine) (shown : Shown) → first_unfit_shell case first some ≡ first_unfit_shell case first all
+    → AreShown case first some shown → AreShown case first all shown
+shown_by_some case first some all (Boxes boxes) same are = (sym same ∙ are.0, are.1)
+shown_by_some case first some all (Fails failure) same are = sym same ∙ are

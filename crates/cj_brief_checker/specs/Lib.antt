@@ -1,3 +1,4 @@
+pub mod Cuts
 pub mod FarThroughout
 pub mod First
 pub mod Shown

@@ -4,11 +4,14 @@
 mod cell_steps;
 mod cells;
 mod checking;
+mod cuts;
 mod far;
 mod halt;
 mod header;
+mod judged_root;
 mod laws;
 mod primaries;
+mod scratch;
 mod showing;
 mod shown;
 mod slot_cells;

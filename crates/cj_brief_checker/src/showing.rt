@@ -1,5 +1,5 @@
 //! The lines of shells against the tracks, by several workers. Each track is walked along once, for its shell and its boxes.
-ghost use Rattle.std.specs.Prelude.{◌≡◌, ℕ, ◌+◌, ◌^◌, ◌<◌, IfOk, Some, get_or, length, map};
+ghost use Rattle.std.specs.Prelude.{◌≡◌, ℕ, ◌+◌, ◌^◌, ◌<◌, IfOk, Some, get_or, length, map, take};
 ghost use Rattle.cj_case.specs.Problems.{plain_problem};
 ghost use Rattle.cj_case.specs.Slots.{slot_count as the_count};
 ghost use Rattle.cj_cert.specs.declared.cert_lines.ShellLine.{ShellLine};
@@ -16,6 +16,17 @@ use cj_formats::CheckCause;
 use cj_threads::{Nobody, all_made, map_dealt};
 use std::alloc::{AllocError, Global};
 use std::thread::Threads;
+
+/// The lines of so many objects, and one behind them, which fails.
+fn asked(lines: &[ShellLine], objects: usize) -> &[ShellLine]
+    ensures { result.now ≡ take (objects + 1) lines.now }
+{
+    if lines.len() <= objects {
+        return lines;
+    }
+    let (some, _) = lines.split_at(objects + 1);
+    some
+}
 
 /// What each line shows of its object in so many slots, by as many threads as there are workers: each takes the next line.
 fn rows_of<R: Threads + Sync>(
@@ -90,6 +101,7 @@ pub(crate) fn show<R: Threads + Sync>(
     ensures { IfOk result (AreShown (plain_problem problem.now) first lines.now) }
 {
     let slots = slot_count(problem.window);
-    let rows = rows_of(rt, alloc, problem, lines, slots, workers)?;
-    in_one(alloc, problem, first, lines, rows)
+    let some = asked(lines, problem.tracks.as_slice().len());
+    let rows = rows_of(rt, alloc, problem, some, slots, workers)?;
+    in_one(alloc, problem, first, some, rows)
 }

@@ -8,6 +8,7 @@ ghost use Rattle.cj_brief_checker.specs.SlotCells.{AreTried, IsFound, IsTried};
 
 use crate::cell_steps::slot_of;
 use crate::halt::Halt;
+use crate::scratch::Scratch;
 use crate::slot_pairs::SlotPairs;
 use crate::tiled::Tiled;
 use crate::tiling::tile_slot;
@@ -44,7 +45,15 @@ fn tile(
 {
     let mut candidates = SlotPairs::new(alloc);
     candidates.find(problem, boxes, cert, slot)?;
-    Ok(tile_slot(problem, slot, &candidates.pairs, &cert.cells, at))
+    let mut scratch = Scratch::new(alloc, problem)?;
+    Ok(tile_slot(
+        problem,
+        slot,
+        &candidates.pairs,
+        &mut scratch,
+        &cert.cells,
+        at,
+    ))
 }
 
 /// The same from where the cells of the slot begin, if all are in order. Nothing where memory is wanting, or the workers are to leave it.

@@ -17,6 +17,9 @@ pub tile_pair-requires-clause-exists : goal.tile_pair-requires-clause-exists
 tile_pair-requires-clause-exists c =
     subst (λ (p : Pair). p.b < length c.args.problem.now.tracks) (sym c.pair-item.is) (c.requires.exist c.loop-pair.pair-index c.pair-item.result c.loop-pair-test.true)
 
+pub tile_pair-requires-clause-cuts : goal.tile_pair-requires-clause-cuts
+tile_pair-requires-clause-cuts c = c.loop-pair.invariant.cuts
+
 -- behind the cells of this pair
 step : (c : After-tile_pair) (line : ℕ) (left : List PlainCell) → let case = plain_problem c.args.problem.now in
     let cells = map plain_cell_line c.args.cells.now in
@@ -48,6 +51,7 @@ loop-pair-preserved c =
     let case = plain_problem c.args.problem.now in
     let cells = map plain_cell_line c.args.cells.now in
     record {
+      cuts = c.tile_pair.ensures.cuts ∙ c.loop-pair.invariant.cuts;
       place = c.in_ok-at.ensures.ok;
       rest = λ line left. step (goal.at.loop-pair-preserved c).After-tile_pair line left
           ∙ ap (told_behind case line (roots_in_slot case c.args.slot (map objects_of (drop (c.loop-pair.pair-index + 1) c.args.pairs.now)) ++ left) cells) c.in_ok-at.was;
@@ -60,3 +64,9 @@ returns-clause-tells c line left =
     let none : drop c.loop-pair.pair-index c.args.pairs.now ≡ [] = nil_from_length _ (omega (arith, length-drop c.loop-pair.pair-index c.args.pairs.now)) in
     c.loop-pair.invariant.rest line left
     ∙ ap (λ (pairs : List Pair). told_from case (drop at (map plain_cell_line c.args.cells.now)) (line + at) false (roots_in_slot case c.args.slot (map objects_of pairs) ++ left)) none
+
+pub returns-in_err-at-clause-cuts : goal.returns-in_err-at-clause-cuts
+returns-in_err-at-clause-cuts c = c.tile_pair.ensures.cuts ∙ c.loop-pair.invariant.cuts ∙ sym c.requires.cuts
+
+pub returns-clause-cuts : goal.returns-clause-cuts
+returns-clause-cuts c = c.loop-pair.invariant.cuts ∙ sym c.requires.cuts

@@ -12,6 +12,7 @@ abbrev pub invariant-loop-pair : goal.invariant-loop-pair
 invariant-loop-pair l =
     let case = plain_problem l.problem in
     record {
+      cuts : l.scratch.cuts ≡ l.problem;
       place : l.at ≤ length l.cells;
       rest : (line : ℕ) (left : List PlainCell)
           → told_from case (drop l.initial.at (map plain_cell_line l.cells)) (line + l.initial.at) false (roots_in_slot case l.slot (map objects_of l.pairs) ++ left)

@@ -6,13 +6,13 @@ use Rattle.cj_case.specs.Problems.{plain_problem}
 use Rattle.cj_case.specs.Cells.{PlainCell}
 use Rattle.cj_hermite.specs.Roots.{root_of_run, roots_between}
 use Rattle.cj_cert.specs.Certificates.{plain_cell_line}
-use Rattle.cj_checker.specs.Tiling.{IsOf, root_from}
+use Rattle.cj_checker.specs.Tiling.{AreOver, IsOf, root_from}
 use Rattle.cj_hermite.proofs.SlotRootLemmas.{no_roots}
 use Rattle.cj_brief_checker.specs.First.{told_from}
 use Rattle.cj_brief_checker.specs.Steps.{told_behind}
 use Rattle.cj_checker.proofs.TilingLemmas.{roots_next, roots_none, ready_over, ready_of, ready_is}
 use Rattle.cj_brief_checker.proofs.tiling.tile_ticks.Goals as goal
-use Rattle.cj_brief_checker.proofs.tiling.tile_ticks.Goals.{After-tile_root}
+use Rattle.cj_brief_checker.proofs.tiling.tile_ticks.Goals.{After-new-root, After-tile_root}
 
 -- the roots that are left: this one, and those behind it
 next : (c : After-tile_root) → let case = plain_problem c.args.problem.now in
@@ -28,8 +28,9 @@ next c =
     (c.index-tracks-pair-2.is ∙ ap (λ (ts : List Track). get_or ts pair.b y) c.as_slice-tracks.ensures.value)
     (omega (arith, pair.ordered, c.requires.exists)) c.requires.exists c.in-Some.ensures.run
 
-pub tile_root-requires-clause-over : goal.tile_root-requires-clause-over
-tile_root-requires-clause-over c =
+-- both interpolants of the root are defined at its ticks
+over : (c : After-new-root) → AreOver c.new-root.result c.new-root.result.ticks.first.micros c.new-root.result.ticks.last.micros
+over c =
     let case = plain_problem c.args.problem.now in
     let pair = c.args.pair in
     let x = c.index-tracks-pair.result in
@@ -46,6 +47,12 @@ tile_root-requires-clause-over c =
     (c.index-tracks-pair-2.is ∙ ap (λ (ts : List Track). get_or ts pair.b y) c.as_slice-tracks.ensures.value)
     (omega (arith, pair.ordered, c.requires.exists)) c.requires.exists told.run)
     told.some told.first told.second made.pair made.ticks made.first made.second
+
+pub verdict_of-verdict-requires-clause-over : goal.verdict_of-verdict-requires-clause-over
+verdict_of-verdict-requires-clause-over c = over (goal.at.verdict_of-verdict-requires-clause-over c).After-new-root
+
+pub tile_root-requires-clause-over : goal.tile_root-requires-clause-over
+tile_root-requires-clause-over c = over (goal.at.tile_root-requires-clause-over c).After-new-root
 
 -- the root is one of the problem
 is_of : (c : After-tile_root) → IsOf (plain_problem c.args.problem.now) c.new-root.result
