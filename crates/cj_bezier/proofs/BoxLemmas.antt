@@ -78,12 +78,3 @@ axes_apart xs ys a0 a1 a2 a3 b0 b1 b2 b3 d0 d1 d2 d3 n m h0 h1 h2 h3 =
     (less_by _ _ _ _ _ h1.z_upper (read_end (λ b. b.z) (λ s. s.hi) xs 1 a1 (omega arith)) (read_end (λ b. b.z) (λ s. s.lo) ys 1 b1 (omega arith)))
     (less_by _ _ _ _ _ h2.z_upper (read_end (λ b. b.z) (λ s. s.hi) xs 2 a2 (omega arith)) (read_end (λ b. b.z) (λ s. s.lo) ys 2 b2 (omega arith)))
     (less_by _ _ _ _ _ h3.z_upper (read_end (λ b. b.z) (λ s. s.hi) xs 3 a3 (omega arith)) (read_end (λ b. b.z) (λ s. s.lo) ys 3 b3 (omega arith))))
-
--- the boxes at the four places of a list make the list
-pub four_boxes : (xs : List Box3) (a b c d : Box3) → length xs ≡ 4 → slice_index_or xs 0 a ∷ slice_index_or xs 1 b ∷ slice_index_or xs 2 c ∷ slice_index_or xs 3 d ∷ [] ≡ xs
-four_boxes [] a b c d h = absurd (omega arith)
-four_boxes (p ∷ []) a b c d h = absurd (omega arith)
-four_boxes (p ∷ q ∷ []) a b c d h = absurd (omega arith)
-four_boxes (p ∷ q ∷ r ∷ []) a b c d h = absurd (omega arith)
-four_boxes (p ∷ q ∷ r ∷ s ∷ []) a b c d h = refl
-four_boxes (p ∷ q ∷ r ∷ s ∷ t ∷ xs) a b c d h = absurd (omega arith)

@@ -109,8 +109,3 @@ pub row_taken : (p : ℕ × ℕ → Bool) (n a : ℕ) (old new : List (ℕ × �
     → new ≡ filter p (flat_map (pairs_from n) (range_with_len 0 (a + 1)))
 row_taken p n a old new more e =
     more ∙ ap (λ (ps : List (ℕ × ℕ)). ps ++ filter p (pairs_from n a)) e ∙ sym (filter-append p (flat_map (pairs_from n) (range_with_len 0 a)) (pairs_from n a)) ∙ ap (filter p) (rows_more n a)
-
-pub row_left : (p : ℕ × ℕ → Bool) (n a : ℕ) (old : List (ℕ × ℕ)) → ((b : ℕ) → p (a, b) ≡ false) → old ≡ filter p (flat_map (pairs_from n) (range_with_len 0 a))
-    → old ≡ filter p (flat_map (pairs_from n) (range_with_len 0 (a + 1)))
-row_left p n a old fail e =
-    row_taken p n a old old (sym (append-nil old) ∙ ap (λ (ps : List (ℕ × ℕ)). old ++ ps) (sym (none_passes p a fail (range_with_len (a + 1) (n - (a + 1)))))) e

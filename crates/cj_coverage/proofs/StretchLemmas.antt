@@ -1,5 +1,5 @@
 -- Spans of ticks with a state, one after another.
-use Rattle.std.proofs.Common.{◌≡◌, ℕ, suc, ◌+◌, ◌-◌, ◌<◌, ◌≤◌, max, min, false, List, [], ◌∷◌, ◌++◌, map, length, get_or, Option, Some, None, refl, sym, ap, subst, ◌∙◌, inl, inr, append-nil, append_assoc, arith}
+use Rattle.std.proofs.Common.{◌≡◌, ℕ, suc, ◌+◌, ◌-◌, ◌<◌, ◌≤◌, max, false, List, [], ◌∷◌, ◌++◌, map, length, get_or, Option, Some, None, refl, sym, ap, subst, ◌∙◌, inl, inr, append-nil, append_assoc, arith}
 use Rattle.std.specs.Prelude.{◌↔◌, Any, MatchOption, is_some}
 use Rattle.std.specs.List.{range_with_len}
 use Rattle.std.proofs.lemmas.Bool.{cases_lt}
@@ -16,7 +16,7 @@ use Rattle.cj_hermite.specs.Walks.{AreEnded, HasNone, IsNextState}
 use Rattle.cj_hermite.proofs.CommonRunLemmas.{skipped, taken}
 use Rattle.cj_hermite.proofs.SpanLemmas.{next_of, state_in_span}
 use Rattle.cj_coverage.specs.Coverage.{AreApart, HasAll, IsCovered, IsIn, covered_spans, one_label, state_label}
-use Rattle.cj_coverage.specs.Stretches.{GoesOn, IsNextSpan, IsNextStretch}
+use Rattle.cj_coverage.specs.Stretches.{IsNextSpan, IsNextStretch}
 use Rattle.cj_coverage.proofs.CoverageLemmas.{apart, exact, label_of}
 
 -- ---- the stretch of a segment
@@ -52,10 +52,6 @@ longer e from first middle next all behind begins is m low high = elim (cases_lt
   | inr upto ↦ all m low upto
 ]
 
--- where there is no more state, or the next is later
-pub ends_here : (e : PlainTrack) (from : ℕ) (next : Window) → IsNextStretch e from next → from < next.first.micros → piece_at e from ≡ None
-ends_here e from next is later = is.next.none from (omega arith) later
-
 -- ---- the first span
 
 no_label : (o : Option ℕ) → o ≡ None → one_label o ≡ None
@@ -90,24 +86,6 @@ next_covered e from last span is =
     (skipped label from j (suc k + n) (λ m low high. no_label (piece_at e m) (is.none m low (omega arith)))
     ∙ ap (λ (m : ℕ). runs_over label (range_with_len m (suc k + n))) at
     ∙ taken label k first end n (omega (arith, is.some)) (ap is_some first_label) (λ m low high. here m low high ∙ sym first_label) apart)
-
--- the longest stretch, up to the last tick, is the first span
-pub is_next : (e : PlainTrack) (from last : ℕ) (stretch longest span : Window) → IsNextStretch e from stretch → stretch.first.micros ≤ last → GoesOn e last stretch longest
-    → span.first.micros ≡ longest.first.micros → span.last.micros ≡ min longest.last.micros last → IsNextSpan e from last span
-is_next e from last stretch longest span is within on first end = record {
-  later = omega (arith, first, on.first, is.next.later);
-  none = λ m low high. is.next.none m low (omega (arith, high, first, on.first));
-  some = omega (arith, first, end, on.first, on.longer, is.some, within);
-  within = omega (arith, end);
-  all = λ m low high. on.all m (omega (arith, low, first)) (omega (arith, high, end));
-  ends = λ more.
-      let at : longest.last.micros ≡ span.last.micros = omega (arith, end, more) in
-      subst (λ (k : ℕ). piece_at e (k + 1) ≡ None) at (on.ends (omega (arith, at, more)));
-}
-
--- where the next stretch begins behind the last tick there is none
-pub none_within : (e : PlainTrack) (from last : ℕ) (stretch : Window) → IsNextStretch e from stretch → last < stretch.first.micros → HasNone e from last
-none_within e from last stretch is past m low high = is.next.none m low (omega (arith, high, past))
 
 -- ---- spans one after another
 

@@ -1,6 +1,6 @@
 -- Quotients by multiplication: a fraction scaled to a power of two, the guess that it gives, and its one correction.
 use Rattle.std.proofs.Common.{◌≡◌, ℕ, zero, suc, ◌+◌, ◌-◌, ◌*◌, ◌/◌, ◌^◌, ◌<◌, ◌≤◌, arith, ap, subst, sym, ◌∙◌, refl, [], ◌∷◌}
-use Rattle.std.proofs.Math.Nat.{mul-le-mul_right, mul-le-mul_left, le_of_mul-le-mul_right}
+use Rattle.std.proofs.Math.Nat.{mul-le-mul_right, mul-le-mul_left}
 use Rattle.std.proofs.lemmas.Int.{ints, by_lt_z}
 use Rattle.std.specs.Prelude.{ℤ, pos, ◌+ℤ◌, ◌-ℤ◌, ◌*ℤ◌, ◌≤ℤ◌, ◌<ℤ◌}
 use borrow.Author.Differences.{up, down}
@@ -37,10 +37,6 @@ guess_near f t s u h small some =
     let p : s * 2 ^ 63 + 1 ≤ f * t + 2 * t = omega arith in
     let q : f * (2 * u) + 1 ≤ (g + 1) * 2 ^ 64 = omega arith in
     omega (arith, mul-le-mul_right u p, mul-le-mul_right t q, mul-le-mul_right t small)
-
--- a factor that both sides have may be left out
-pub whole_below : (q r u s t : ℕ) → q * t + r ≡ u * s → s ≤ t → 0 < t → q ≤ u
-whole_below q r u s t e h p = omega (arith, le_of_mul-le-mul_right (let k : q * t ≤ u * t = omega (arith, mul-le-mul_left u h) in k) p)
 
 -- ---- quotients of whole numbers
 

@@ -35,9 +35,6 @@ less_not Less p q = absurd cc
 less_not Equal p q = refl
 less_not Greater p q = absurd cc
 
-eq_of : (o : Ordering) → o ≡ Equal → is_eq o ≡ true
-eq_of o e = ap is_eq e
-
 pub lt_of : (o : Ordering) → is_lt o ≡ true → o ≡ Less
 lt_of Less h = refl
 lt_of Equal h = absurd cc

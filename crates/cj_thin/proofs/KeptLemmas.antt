@@ -39,10 +39,6 @@ skipped e (suc n) [] = refl
 skipped e zero (a ∷ xs) = refl
 skipped e (suc n) (a ∷ xs) = skipped e n xs
 
-pub kept_first : (e : ℕ) (a : PlainNode) (behind : List PlainNode) → kept e (a ∷ behind) ≡ a ∷ kept_behind e (left_out e a behind) behind
-unfolding kept_behind
-kept_first e a behind = refl
-
 pub kept_fewer : (e n : ℕ) (xs : List PlainNode) → length (kept_behind e n xs) ≤ length xs
 unfolding kept_behind
 kept_fewer e n [] = omega arith

@@ -1,4 +1,4 @@
-use Rattle.std.proofs.Common.{◌++◌, ◌∙◌, List, [], ap, arith, length, subst, sym}
+use Rattle.std.proofs.Common.{◌++◌, ◌∙◌, List, ap, arith, length, subst, sym}
 use Rattle.std.specs.Prelude.{All, flat_map}
 use Rattle.std.specs.Global.{Vec}
 use Rattle.std.specs.List.Sorted.{IsPermutation}

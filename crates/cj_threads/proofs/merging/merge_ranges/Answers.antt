@@ -1,4 +1,4 @@
-use Rattle.std.proofs.Common.{List, Ok, subst}
+use Rattle.std.proofs.Common.{List, subst}
 use Rattle.std.specs.Prelude.{All, IfOk, flat_map}
 use Rattle.std.specs.Global.{Vec}
 use Rattle.std.specs.Borrow.{Bor}
